@@ -1,0 +1,4 @@
+pub mod Tests
+pub mod Filling
+pub mod PartLaws
+pub mod NumberLaws

@@ -1,0 +1,64 @@
+-- `copy` leaves what it copied: after i turns the first i bytes are the source's.
+-- Assumes nothing.
+use Prim.Native.Nat.{_≤_, _-_}
+use mathlib.Core.Path.{_≡_, refl}
+use mathlib.Core.List.{_++_}
+use lib.ListN.{length, take, drop, length-set}
+use Rattle.octets.proofs.Filling.{fill-more, fill-end}
+use borrow.Author.Needs.{needs}
+use native.Mathlib.Omega.{arith}
+use Rattle.octets.proofs.parts.copy.Statement.{statement}
+use Rattle.octets.proofs.parts.copy.Tie as tie
+
+abbrev Inv-loop : tie.InvT-loop
+Inv-loop to₀ from i₀ to i = (i ≤ length from) × (length to ≡ length to₀) × (to ≡ take i from ++ drop i to₀)
+
+abbrev μ-loop : tie.MeasureT-loop
+μ-loop to₀ from i₀ to i = length from - i
+
+loop-holds : tie.Need-loop-holds Inv-loop μ-loop
+loop-holds c = (search needs, refl, refl)
+
+shared-slice-read-to : tie.Need-shared-slice-read-to Inv-loop μ-loop
+shared-slice-read-to c = search needs
+
+slice-write-to : tie.Need-slice-write-to Inv-loop μ-loop
+slice-write-to c = search needs
+
+add-i : tie.Need-add-i Inv-loop μ-loop
+add-i c = search needs
+
+loop-less : tie.Need-loop-less Inv-loop μ-loop
+loop-less c = search needs
+
+loop-again : tie.Need-loop-again Inv-loop μ-loop
+loop-again c =
+    let a = c .before .before .before .args in
+    let l = c .before .before .loop in (
+      search needs,
+      simp length-set (search needs),
+      fill-more (a .to .now) (a .from .now) (l .i) (l .inv .2) (omega arith) (omega arith),
+    )
+
+same-length : tie.Need-same-length Inv-loop μ-loop
+same-length c = search needs
+
+returns : tie.Need-returns Inv-loop μ-loop
+returns c =
+    let a = c .before .before .args in
+    let l = c .before .loop in fill-end (a .to .now) (a .from .now) (l .i) (l .inv .2) (omega arith) (omega arith)
+
+pub copy-spec : {M : Type 1} → statement M
+copy-spec =
+    tie.close
+    (tie.spec
+    Inv-loop
+    μ-loop
+    loop-holds
+    shared-slice-read-to
+    slice-write-to
+    add-i
+    loop-less
+    loop-again
+    same-length
+    returns)

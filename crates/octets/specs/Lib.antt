@@ -1,0 +1,3 @@
+pub mod Choice
+pub mod Numbers
+pub mod Parts

@@ -1,0 +1,42 @@
+// Parts of byte strings: all zero, filled with zeros, copied over.
+ghost use mathlib.Core.Path.{_≡_};
+ghost use Prim.Native.Nat.{_≤_};
+ghost use lib.ListN.{length, replicate};
+ghost use Rattle.octets.specs.Parts.{zerosB};
+
+// Is every byte of `s` zero? Ors all of them and tests once: with no way out of the loop
+// the compiler makes vector code of it.
+pub fn zeros(s: &[u8]) -> bool
+    ensures { λ r. ⌜ r ≡ zerosB (now (s .entry)) ⌝ }
+{
+    let mut any = 0;
+    let mut i = 0;
+    while i < s.len() {
+        any = any | s[i];
+        i += 1;
+    }
+    any == 0
+}
+
+// Every byte of `s` becomes zero.
+pub fn clear(s: &mut [u8])
+    ensures { λ _. ⌜ now (s .exit) ≡ replicate (length (now (s .entry))) 0 ⌝ }
+{
+    let mut i = 0;
+    while i < s.len() {
+        s[i] = 0;
+        i += 1;
+    }
+}
+
+// `to` becomes a copy of `from`.
+pub fn copy(to: &mut [u8], from: &[u8])
+    requires { ⌜ length (now to) ≡ length (now from) ⌝ }
+    ensures { λ _. ⌜ now (to .exit) ≡ now (from .entry) ⌝ }
+{
+    let mut i = 0;
+    while i < from.len() {
+        to[i] = from[i];
+        i += 1;
+    }
+}
