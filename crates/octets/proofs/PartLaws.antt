@@ -3,6 +3,7 @@
 use mathlib.Core.Path.{_≡_, refl, sym, ap, subst, _∙_}
 use mathlib.Core.List.{List, [], _∷_, _++_}
 use Prim.Native.Nat.{ℕ, zero, suc, _+_, _-_, _<_, _≤_, _%_}
+use native.Mathlib.Nat.{zero-add, suc-add, add-sub-cancel-left}
 use native.Mathlib.Omega.{arith}
 use lib.ListN.{length, take, drop, getD, replicate, take-append-drop, length-append, length-take, length-drop}
 use lib.Seq.{length-take-le, take-append-le, drop-append-le, take-at, drop-at, drop-drop, drop-append-add, getD-drop, take-nil}
@@ -88,3 +89,12 @@ bytes-zeros n = record { byte = go n }
 pub bytes-over : (t : List ℕ) (p : ℕ) (xs : List ℕ) → Bytes t → Bytes xs → Bytes (over t p xs)
 unfolding over
 bytes-over t p xs ht hx = bytes-append (take p t) _ (bytes-take p t ht) (bytes-append xs _ hx (bytes-drop (p + length xs) t ht))
+
+pub drop-zeros : (n m : ℕ) → drop {A = ℕ} n (replicate (n + m) 0) ≡ replicate m 0
+drop-zeros zero m = rw zero-add
+drop-zeros (suc n) m = rw suc-add (drop-zeros n m)
+
+-- a part from p on that was lent and came back as b
+pub part-back : (t : List ℕ) {b : List ℕ} (xs : List ℕ) (p : ℕ) → b ≡ xs → take p t ++ (b ++ drop (p + length xs - p) (drop p t)) ≡ over t p xs
+unfolding over
+part-back t xs p e = rw (e, add-sub-cancel-left p (length xs), drop-drop (length xs) p t)

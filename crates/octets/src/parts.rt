@@ -1,8 +1,8 @@
 // Parts of byte strings: all zero, filled with zeros, copied over.
 ghost use mathlib.Core.Path.{_≡_};
-ghost use Prim.Native.Nat.{_≤_};
+ghost use Prim.Native.Nat.{_+_, _≤_};
 ghost use lib.ListN.{length, replicate};
-ghost use Rattle.octets.specs.Parts.{zerosB};
+ghost use Rattle.octets.specs.Parts.{zerosB, over};
 
 // Is every byte of `s` zero? Ors all of them and tests once: with no way out of the loop
 // the compiler makes vector code of it.
@@ -39,4 +39,13 @@ pub fn copy(to: &mut [u8], from: &[u8])
         to[i] = from[i];
         i += 1;
     }
+}
+
+// `bytes` are laid over `t` from `at` on.
+pub fn put(t: &mut [u8], at: usize, bytes: &[u8])
+    requires { ⌜ at + length (now bytes) ≤ length (now t) ⌝ }
+    ensures { λ _. ⌜ now (t .exit) ≡ over (now (t .entry)) at (now (bytes .entry)) ⌝ }
+{
+    let end = at + bytes.len();
+    copy(&mut t[at..end], bytes);
 }
