@@ -8,6 +8,7 @@ use native.Mathlib.Omega.{arith}
 use lib.ListN.{getD}
 use Rattle.octets.specs.Numbers.{at, le16, le32, bytes2, bytes4}
 use Rattle.octets.specs.Parts.{Bytes}
+use Rattle.octets.proofs.PartLaws.{bytes-append}
 
 pub two : (n : ℕ) → n < 65536 → n % 256 + 256 * (n / 256 % 256) ≡ n
 two n h = omega arith
@@ -29,3 +30,19 @@ le16-small t i h = omega (arith, h .byte i, h .byte (i + 1))
 
 pub le32-small : (t : List ℕ) (i : ℕ) → Bytes t → le32 t i < 4294967296
 le32-small t i h = omega (arith, le16-small t i h, le16-small t (i + 2) h)
+
+pub bytes-two : (n : ℕ) → Bytes (bytes2 n)
+bytes-two n = record { byte = go }
+  where
+    go : (i : ℕ) → at (bytes2 n) i < 256
+    go zero = omega arith
+    go (suc zero) = omega arith
+    go (suc (suc i)) = omega arith
+
+pub bytes-four : (n : ℕ) → Bytes (bytes4 n)
+bytes-four n = bytes-append (bytes2 n) (n / 65536 % 256 ∷ n / 16777216 % 256 ∷ []) (bytes-two n) (record { byte = go })
+  where
+    go : (i : ℕ) → at (n / 65536 % 256 ∷ n / 16777216 % 256 ∷ []) i < 256
+    go zero = omega arith
+    go (suc zero) = omega arith
+    go (suc (suc i)) = omega arith
