@@ -22,10 +22,10 @@ pub fn zeros(s: &[u8]) -> bool
 pub fn clear(s: &mut [u8])
     ensures { λ _. ⌜ now (s .exit) ≡ replicate (length (now (s .entry))) 0 ⌝ }
 {
-    let mut i = 0;
-    while i < s.len() {
-        s[i] = 0;
-        i += 1;
+    let mut at = 0;
+    while at < s.len() {
+        s[at] = 0;
+        at += 1;
     }
 }
 
@@ -34,10 +34,10 @@ pub fn copy(to: &mut [u8], from: &[u8])
     requires { ⌜ length (now to) ≡ length (now from) ⌝ }
     ensures { λ _. ⌜ now (to .exit) ≡ now (from .entry) ⌝ }
 {
-    let mut i = 0;
-    while i < from.len() {
-        to[i] = from[i];
-        i += 1;
+    let mut k = 0;
+    while k < from.len() {
+        to[k] = from[k];
+        k += 1;
     }
 }
 

@@ -1,4 +1,4 @@
--- `copy` leaves what it copied: after i turns the first i bytes are the source's.
+-- `copy` leaves what it copied: after so many turns as many bytes are the source's.
 -- Assumes nothing.
 use Prim.Native.Nat.{_≤_, _-_}
 use mathlib.Core.Path.{_≡_, refl}
@@ -11,10 +11,10 @@ use Rattle.octets.proofs.parts.copy.Statement.{statement}
 use Rattle.octets.proofs.parts.copy.Tie as tie
 
 abbrev Inv-loop : tie.InvT-loop
-Inv-loop to₀ from i₀ to i = (i ≤ length from) × (length to ≡ length to₀) × (to ≡ take i from ++ drop i to₀)
+Inv-loop to₀ from k₀ to k = (k ≤ length from) × (length to ≡ length to₀) × (to ≡ take k from ++ drop k to₀)
 
 abbrev μ-loop : tie.MeasureT-loop
-μ-loop to₀ from i₀ to i = length from - i
+μ-loop to₀ from k₀ to k = length from - k
 
 loop-holds : tie.Need-loop-holds Inv-loop μ-loop
 loop-holds c = (search needs, refl, refl)
@@ -25,8 +25,8 @@ shared-slice-read-to c = search needs
 slice-write-to : tie.Need-slice-write-to Inv-loop μ-loop
 slice-write-to c = search needs
 
-add-i : tie.Need-add-i Inv-loop μ-loop
-add-i c = search needs
+add-k : tie.Need-add-k Inv-loop μ-loop
+add-k c = search needs
 
 loop-less : tie.Need-loop-less Inv-loop μ-loop
 loop-less c = search needs
@@ -37,7 +37,7 @@ loop-again c =
     let l = c .before .before .loop in (
       search needs,
       simp length-set (search needs),
-      fill-more (a .to .now) (a .from .now) (l .i) (l .inv .2) (omega arith) (omega arith),
+      fill-more (a .to .now) (a .from .now) (l .k) (l .inv .2) (omega arith) (omega arith),
     )
 
 same-length : tie.Need-same-length Inv-loop μ-loop
@@ -46,7 +46,7 @@ same-length c = search needs
 returns : tie.Need-returns Inv-loop μ-loop
 returns c =
     let a = c .before .before .args in
-    let l = c .before .loop in fill-end (a .to .now) (a .from .now) (l .i) (l .inv .2) (omega arith) (omega arith)
+    let l = c .before .loop in fill-end (a .to .now) (a .from .now) (l .k) (l .inv .2) (omega arith) (omega arith)
 
 pub copy-spec : {M : Type 1} → statement M
 copy-spec =
@@ -57,7 +57,7 @@ copy-spec =
     loop-holds
     shared-slice-read-to
     slice-write-to
-    add-i
+    add-k
     loop-less
     loop-again
     same-length
