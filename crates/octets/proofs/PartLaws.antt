@@ -1,12 +1,12 @@
 -- Laws of `over` (a part written over) and of `Bytes`.
 -- Assumes nothing.
-use mathlib.Core.Path.{_≡_, refl, sym, ap, subst, _∙_}
+use mathlib.Core.Path.{_≡_, refl, sym, ap, _∙_}
 use mathlib.Core.List.{List, [], _∷_, _++_}
-use Prim.Native.Nat.{ℕ, zero, suc, _+_, _-_, _<_, _≤_, _%_}
+use Prim.Native.Nat.{ℕ, zero, suc, _+_, _-_, _<_, _≤_}
 use native.Mathlib.Nat.{zero-add, suc-add, add-sub-cancel-left}
 use native.Mathlib.Omega.{arith}
-use lib.ListN.{length, take, drop, getD, replicate, take-append-drop, length-append, length-take, length-drop}
-use lib.Seq.{length-take-le, take-append-le, drop-append-le, take-at, drop-at, drop-drop, drop-append-add, getD-drop, take-nil}
+use lib.ListN.{length, take, drop, replicate, take-append-drop, length-append, length-take, length-drop}
+use lib.Seq.{length-take-le, take-append-le, drop-append-le, take-at, drop-at, drop-drop, drop-append-add, getD-drop}
 use Rattle.octets.specs.Numbers.{at}
 use Rattle.octets.specs.Parts.{part, over, Bytes}
 

@@ -2,16 +2,16 @@
 -- Assumes nothing.
 use mathlib.Core.Path.{_≡_, refl, sym, ap, _∙_}
 use mathlib.Core.Bool.{Bool, true, false}
-use mathlib.Core.List.{List, [], _∷_}
+use mathlib.Core.List.{List}
 use Prim.Native.Nat.{ℕ, zero, suc, _+_, _≤_, _<_}
 use native.Mathlib.Omega.{arith}
 use native.Mathlib.Numerals.{add-one}
-use borrow.Author.Tests.{eq-eqb, ne-eqb, eqb-true, eqb-false}
-use lib.Bits.{bitOr, or-add-and, and-le-l, and-le-r, or-zero-l}
+use borrow.Author.Tests.{ne-eqb}
+use lib.Bits.{bitOr, or-add-and, and-le-r, or-zero-l}
 use lib.Dec.{eqb}
 use lib.ListN.{length, drop, drop-of-length-le}
 use lib.Seq.{drop-cons}
-use Rattle.octets.specs.Choice.{both, pick}
+use Rattle.octets.specs.Choice.{both}
 use Rattle.octets.specs.Numbers.{at}
 use Rattle.octets.specs.Parts.{zerosB}
 

@@ -8,7 +8,6 @@ use Rattle.octets.specs.Choice.{both}
 use Rattle.octets.specs.Parts.{zerosB}
 use Rattle.octets.proofs.Tests.{zeros-step, zeros-done}
 use borrow.Author.Needs.{needs}
-use native.Mathlib.Omega.{arith}
 use Rattle.octets.proofs.parts.zeros.Statement.{statement}
 use Rattle.octets.proofs.parts.zeros.Tie as tie
 

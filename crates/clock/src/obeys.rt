@@ -1,0 +1,69 @@
+// When a clock obeys the rules of document 01, "Clock state". The running report's next record "is held,
+// matches and has bytes unsent (tested only by calls that take the table)": not here.
+use crate::state::Clock;
+use crate::state::Report;
+use crate::state::Running;
+use filter::request::Filter;
+use octets::choice::both;
+use rules::fields::base_ok;
+use rules::fields::dst_ok;
+use rules::fields::source_ok;
+use rules::fields::status_ok;
+use rules::fields::zone_ok;
+ghost use mathlib.Core.Path.{_≡_};
+ghost use Rattle.clock.specs.Rules.{opcodeB, filterB, reportB, runningB, clockB};
+
+// The last value of a notification's counter.
+pub const LAST_COUNTER: u8 = 63;
+
+fn opcode_ok(opcode: u8) -> bool
+    ensures { λ r. ⌜ r ≡ opcodeB opcode ⌝ }
+{
+    match opcode {
+        1 | 7 => true,
+        _ => false,
+    }
+}
+
+fn filter_ok(f: Filter) -> bool
+    ensures { λ r. ⌜ r ≡ filterB f ⌝ }
+{
+    match f {
+        Filter::All => true,
+        Filter::AtMost(_) => true,
+        Filter::AtLeast(_) => true,
+        Filter::Range(min, max) => min <= max,
+        Filter::First => true,
+        Filter::Last => true,
+    }
+}
+
+fn report_ok(report: Report) -> bool
+    ensures { λ r. ⌜ r ≡ reportB report ⌝ }
+{
+    let filter = report.filter;
+    both(
+        opcode_ok(report.opcode),
+        both(filter_ok(filter), report.counter <= LAST_COUNTER),
+    )
+}
+
+fn running_ok(running: Running) -> bool
+    ensures { λ r. ⌜ r ≡ runningB running ⌝ }
+{
+    match running {
+        Running::Idle => true,
+        Running::Reporting(report) => report_ok(report),
+    }
+}
+
+// Does the clock obey every rule that needs no table? Refuses nothing.
+pub fn clock_ok(c: Clock) -> bool
+    ensures { λ r. ⌜ r ≡ clockB c ⌝ }
+{
+    let running = c.running;
+    let place = both(zone_ok(c.zone), dst_ok(c.dst));
+    let quality = both(source_ok(c.source), status_ok(c.status));
+    let kept = both(base_ok(c.aligned), running_ok(running));
+    both(base_ok(c.base), both(place, both(quality, kept)))
+}
