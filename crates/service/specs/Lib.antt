@@ -1,0 +1,4 @@
+pub mod Outcome
+pub mod Rows
+pub mod Fault
+pub mod Start
