@@ -5,7 +5,7 @@ use mathlib.Core.List.{List, [], _∷_}
 use Prim.Native.Nat.{ℕ, zero, suc, _+_, _*_, _/_, _%_, _<_}
 use native.Mathlib.Nat.{div-div-eq-div-mul, div-add-mod', mod-eq-of-lt}
 use native.Mathlib.Omega.{arith}
-use Rattle.octets.specs.Numbers.{at, le16, bytes2, bytes4}
+use Rattle.octets.specs.Numbers.{at, le16, le32, bytes2, bytes4}
 use Rattle.octets.specs.Parts.{Bytes}
 use Rattle.octets.proofs.PartLaws.{bytes-append}
 
@@ -26,6 +26,9 @@ four n h =
 
 pub le16-small : (t : List ℕ) (i : ℕ) → Bytes t → le16 t i < 65536
 le16-small t i h = omega (arith, h .byte i, h .byte (i + 1))
+
+pub le32-small : (t : List ℕ) (i : ℕ) → Bytes t → le32 t i < 4294967296
+le32-small t i h = omega (arith, le16-small t i h, le16-small t (i + 2) h)
 
 pub bytes-two : (n : ℕ) → Bytes (bytes2 n)
 bytes-two n = record { byte = go }

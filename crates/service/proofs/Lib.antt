@@ -1,3 +1,4 @@
 pub mod RowLaws
 pub mod FaultLaws
 pub mod BeginLaws
+pub mod UpdateLaws

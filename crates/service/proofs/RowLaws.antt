@@ -5,7 +5,7 @@ use mathlib.Core.Bool.{Bool, true, false}
 use mathlib.Core.List.{List, [], _∷_, _++_, append-nil}
 use Prim.Native.Nat.{ℕ, _≤_, _<_}
 use native.Mathlib.Omega.{arith}
-use borrow.Author.Tests.{le-leb, lt-leb, lt-ltb, le-ltb}
+use borrow.Author.Tests.{leb-true, le-leb, lt-leb, lt-ltb, le-ltb}
 use lib.Dec.{leb, ltb}
 use lib.ListN.{length, drop}
 use Rattle.octets.specs.Choice.{both, pick}
@@ -36,6 +36,18 @@ broken = refl
 short : doneB OutputShort ≡ false
 unfolding doneB numberOf
 short = refl
+
+wrong-length : doneB WriteLength ≡ false
+unfolding doneB numberOf
+wrong-length = refl
+
+switched-off : doneB SwitchedOff ≡ false
+unfolding doneB numberOf
+switched-off = refl
+
+report-running : doneB ReportRunning ≡ false
+unfolding doneB numberOf
+report-running = refl
 
 pub no-rows : firstFailed [] ≡ Done
 unfolding firstFailed
@@ -96,6 +108,22 @@ table-done c t room ys h =
 
 pub table-all : (c : Clock) (t : List ℕ) (room : Bool) → doneB (firstFailed (tableRows c t room)) ≡ true → TableRows c t room
 table-all c t room h = table-done c t room [] (ap (λ (rs : List Row). doneB (firstFailed rs)) (append-nil (tableRows c t room)) ∙ h) .0
+
+-- none of the write's rows failed
+pub record WriteRows (n : ℕ) (on free : Bool) : Type 0 where
+  pub some : 1 ≤ n
+  pub few : n ≤ 20
+  pub switched : on ≡ true
+  pub alone : free ≡ true
+
+pub write-all : (n : ℕ) (on free : Bool) → doneB (firstFailed (writeRows n on free)) ≡ true → WriteRows n on free
+unfolding writeRows
+write-all n on free h =
+    let x = row-done (both (leb 1 n) (leb n 20)) WriteLength (row on SwitchedOff ∷ row free ReportRunning ∷ []) wrong-length h in
+    let y = row-done on SwitchedOff (row free ReportRunning ∷ []) switched-off (x .1) in
+    let z = row-done free ReportRunning [] report-running (y .1) in
+    let l = both-reads (leb 1 n) (leb n 20) (x .0) in
+    record { some = leb-true 1 n (l .0); few = leb-true n 20 (l .1); switched = y .0; alone = z .0 }
 
 -- one law for each answer
 module _ (c : Clock) (t : List ℕ) (room : Bool) where

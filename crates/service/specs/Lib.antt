@@ -2,3 +2,4 @@ pub mod Outcome
 pub mod Rows
 pub mod Fault
 pub mod Start
+pub mod Update

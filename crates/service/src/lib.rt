@@ -4,3 +4,4 @@ pub mod fault;
 pub mod reply;
 pub mod rows;
 pub mod start;
+pub mod time_update;

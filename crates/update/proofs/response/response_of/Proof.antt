@@ -1,0 +1,67 @@
+-- `response_of` is `responseOf`, decision by decision.
+-- Assumes nothing.
+use Rattle.update.specs.Response.{responseBytes, responseOf}
+use borrow.Author.Needs.{needs}
+use Rattle.update.proofs.response.response_of.Statement.{statement}
+use Rattle.update.proofs.response.response_of.Tie as tie
+
+enum-told : tie.Need-enum-told
+enum-told c = search needs
+
+short-requires : tie.Need-short-requires
+short-requires c κs = search needs
+
+enum-told-2 : tie.Need-enum-told-2
+enum-told-2 c = search needs
+
+short-requires-2 : tie.Need-short-requires-2
+short-requires-2 c κs = search needs
+
+enum-known-d : tie.Need-enum-known-d
+enum-known-d c = search needs
+
+cast-t6 : tie.Need-cast-t6
+cast-t6 c = search needs
+
+cast-t9 : tie.Need-cast-t9
+cast-t9 c = search needs
+
+enum-told-3 : tie.Need-enum-told-3
+enum-told-3 c = search needs
+
+short-requires-3 : tie.Need-short-requires-3
+short-requires-3 c κs = search needs
+
+returns : tie.Need-returns
+unfolding responseOf responseBytes
+returns c = rw (c .before .enum-told .given .1) (c .short .ensures)
+
+returns-2 : tie.Need-returns-2
+unfolding responseOf responseBytes
+returns-2 c = rw (c .before .enum-told2 .given .1) (c .short2 .ensures)
+
+returns-3 : tie.Need-returns-3
+unfolding responseOf responseBytes
+returns-3 c = rw (c .before .d .given .1)
+
+returns-4 : tie.Need-returns-4
+unfolding responseOf responseBytes
+returns-4 c = rw (c .before .enum-told3 .given .1) (c .short3 .ensures)
+
+pub response-of-spec : {M : Type 1} → statement M
+response-of-spec =
+    tie.close
+    (tie.spec
+    enum-told
+    short-requires
+    enum-told-2
+    short-requires-2
+    enum-known-d
+    cast-t6
+    cast-t9
+    enum-told-3
+    short-requires-3
+    returns
+    returns-2
+    returns-3
+    returns-4)
