@@ -2,3 +2,5 @@ pub mod RowLaws
 pub mod FaultLaws
 pub mod BeginLaws
 pub mod UpdateLaws
+pub mod PromiseLaws
+pub mod ReachLaws

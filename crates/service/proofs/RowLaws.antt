@@ -151,6 +151,10 @@ pub whole-with : (c : Clock) (t : List ℕ) → clockB c ≡ true → wholeB c t
 unfolding wholeB
 whole-with c t h = both-yes h
 
+pub whole-reads : (c : Clock) (t : List ℕ) → wholeB c t ≡ true → (clockB c ≡ true) × (runningB t (c .running) ≡ true)
+unfolding wholeB
+whole-reads c t h = both-reads (clockB c) (runningB t (c .running)) h
+
 module _ (n : ℕ) (on free : Bool) where
   pub write-none : n < 1 → firstFailed (writeRows n on free) ≡ WriteLength
   unfolding writeRows

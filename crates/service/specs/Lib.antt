@@ -3,3 +3,4 @@ pub mod Rows
 pub mod Fault
 pub mod Start
 pub mod Update
+pub mod Promises
