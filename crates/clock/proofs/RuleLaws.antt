@@ -2,12 +2,10 @@
 -- Assumes nothing.
 use mathlib.Core.Path.{_≡_}
 use mathlib.Core.Bool.{true}
-use Prim.Native.Nat.{ℕ, _≤_}
 use borrow.Author.Tests.{leb-true, le-leb}
-use lib.Dec.{leb}
 use Rattle.octets.specs.Choice.{both}
 use Rattle.octets.proofs.Tests.{both-reads}
-use Rattle.rules.specs.Rules.{firstBaseTime, lastBaseTime, baseB, zoneB, dstB, sourceB, statusB}
+use Rattle.rules.specs.Rules.{baseB, zoneB, dstB, sourceB, statusB}
 use Rattle.rules.proofs.RangeLaws.{base-reads, base-makes}
 use Rattle.clock.specs.Rules.{opcodeB, filterB, lastCounter, counterB, reportB, runningB, clockB, Rules, ReportRules}
 use Rattle.clock.specs.declared.state.Clock.{Clock}

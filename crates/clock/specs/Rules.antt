@@ -5,7 +5,7 @@ use mathlib.Core.Bool.{Bool, true}
 use Prim.Native.Nat.{ℕ, _≤_}
 use lib.Dec.{leb, eqb}
 use Rattle.octets.specs.Choice.{both, either}
-use Rattle.rules.specs.Rules.{firstBaseTime, lastBaseTime, baseB, zoneB, dstB, sourceB, statusB, bitsB}
+use Rattle.rules.specs.Rules.{firstBaseTime, lastBaseTime, baseB, zoneB, dstB, sourceB, statusB}
 use Rattle.filter.specs.declared.request.Filter.{Filter}
 use Rattle.filter.specs.declared.request.Filter.the-variants.{All, AtMost, AtLeast, Range, First, Last}
 use Rattle.clock.specs.declared.state.Clock.{Clock}

@@ -1,6 +1,6 @@
 -- The whole outcome of a call that takes the table: the answer, the clock, how many bytes of the output are the response, and the
 -- bytes of table and output after it.
-use mathlib.Core.Bool.{Bool, true, false}
+use mathlib.Core.Bool.{Bool}
 use mathlib.Core.List.{List}
 use Prim.Native.Nat.{ℕ}
 use lib.Dec.{eqb}

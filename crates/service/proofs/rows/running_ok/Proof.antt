@@ -1,6 +1,5 @@
 -- The report's next record, where one runs.
 -- Assumes nothing.
-use mathlib.Core.Path.{sym, ap, _∙_}
 use Rattle.service.specs.Rows.{runningB}
 use borrow.Author.Needs.{needs}
 use Rattle.service.proofs.rows.running_ok.Statement.{statement}

@@ -5,7 +5,7 @@ use mathlib.Core.Bool.{true}
 use borrow.Author.Tests.{not-true, not-false}
 use Rattle.log.specs.Table.{soundB}
 use Rattle.clock.specs.Rules.{clockB}
-use Rattle.service.specs.Rows.{runningB, wholeB}
+use Rattle.service.specs.Rows.{wholeB}
 use Rattle.service.proofs.RowLaws.{table-0, table-1, table-2, table-3, whole-alone, whole-with}
 use borrow.Author.Needs.{needs}
 use Rattle.service.proofs.rows.table_rows.Statement.{statement}
