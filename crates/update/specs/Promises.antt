@@ -36,13 +36,14 @@ proposal f b z = record { flags = f; base = b; zone = z; dst = 0; source = 2; ac
 abbrev write : ℕ → ℕ → ℕ → ℕ → List ℕ
 write opcode f b z = (opcode ∷ bytes2 f) ++ (bytes4 b ++ (z ∷ 0 ∷ 2 ∷ 1 ∷ []))
 
--- "For each of the paper's grounds there is a proposal refused on it alone, and one taken": on the clock of case 2, at 800,000,100 with
--- grade 3. The two that are asked of a Propose only are no grounds against a Force.
+-- Neither "a server that rejects every proposal" nor "one that says Success to all": for each ground a proposal that is refused on it
+-- alone, and one that is taken, on the clock of case 2, at 800,000,100 with grade 3. What is asked of a Propose only is no ground
+-- against a Force.
 pub record GroundsAlone : Type 0 where
   pub epoch : decideOf f2 (write proposeOpcode 0x03 800000100 4) ≡ Rejected wrongEpoch
   pub range : decideOf f2 (write proposeOpcode 0x43 800000100 57) ≡ Rejected outOfRange
-  pub lower : decideOf f2 (write proposeOpcode 0x41 800000100 4) ≡ Rejected lowerQuality
-  pub unrealistic : decideOf f2 (write proposeOpcode 0x43 800086501 4) ≡ Rejected unrealistic
+  pub quality : decideOf f2 (write proposeOpcode 0x41 800000100 4) ≡ Rejected lowerQuality
+  pub realism : decideOf f2 (write proposeOpcode 0x43 800086501 4) ≡ Rejected unrealistic
   pub taken : decideOf f2 (write proposeOpcode 0x43 800086500 4) ≡ Taken (proposal 0x43 800086500 4)
   pub forced : decideOf f2 (write forceOpcode 0x40 631152000 4) ≡ Taken (proposal 0x40 631152000 4)
 

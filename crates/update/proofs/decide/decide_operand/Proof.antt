@@ -16,10 +16,14 @@ grounds-requires : tie.Need-grounds-requires
 grounds-requires c κs = search needs
 
 returns-2 : tie.Need-returns-2
-returns-2 c = sym (operand-taken _ _ _ _ _ (c .before .before .before .if1 .left) (c .before .before .proposal-at .ensures) (c .before .grounds .ensures) (c .if2 .taken))
+returns-2 c =
+    let b = c .before .before in
+    sym (operand-taken _ _ _ _ _ (b .before .if1 .left) (b .proposal-at .ensures) (c .before .grounds .ensures) (c .if2 .taken))
 
 returns-3 : tie.Need-returns-3
-returns-3 c = sym (operand-rejected _ _ _ _ _ (c .before .before .before .if1 .left) (c .before .before .proposal-at .ensures) (c .before .grounds .ensures) (c .if2 .left))
+returns-3 c =
+    let b = c .before .before in
+    sym (operand-rejected _ _ _ _ _ (b .before .if1 .left) (b .proposal-at .ensures) (c .before .grounds .ensures) (c .if2 .left))
 
 pub decide-operand-spec : {M : Type 1} → statement M
 decide-operand-spec =

@@ -11,7 +11,7 @@ use Rattle.update.proofs.promises.grounds_alone.Tie as tie
 
 returns : tie.Need-returns
 unfolding decideOf operandOf judged proposalAt groundsOf flagIf epochB rangeB lowerB unrealisticB secondsApart gradeOf localB clockGrade baseB zoneB dstB sourceB
-returns c = record { epoch = refl; range = refl; lower = refl; unrealistic = refl; taken = refl; forced = refl }
+returns c = record { epoch = refl; range = refl; quality = refl; realism = refl; taken = refl; forced = refl }
 
 pub grounds-alone-spec : {M : Type 1} → statement M
 grounds-alone-spec = tie.close (tie.spec returns)
