@@ -1,2 +1,3 @@
 // The rules for the fields that records and the clock share.
 pub mod fields;
+pub mod promises;
