@@ -1,0 +1,299 @@
+// The commands of a script, listed at the head of main.rt.
+use crate::print::end_line;
+use crate::print::print_answer;
+use crate::print::print_bytes;
+use crate::print::print_clock;
+use crate::print::print_response;
+use crate::print::print_sound;
+use crate::print::print_table;
+use crate::script::byte_at;
+use crate::script::number_at;
+use crate::script::short_at;
+use clock::events::Event;
+use clock::events::disconnect;
+use clock::events::seconds;
+use clock::events::switches;
+use clock::state::Clock;
+use clock::state::Left;
+use clock::state::Report;
+use clock::state::Running;
+use filter::request::Filter;
+use log::sound::sound;
+use octets::parts::put;
+use service::fault::fault;
+use service::reply::Reply;
+use service::start::start;
+use service::time_update::time_update;
+
+// The clock, and how many bytes of the buffer are the table.
+pub struct Play {
+    pub clock: Clock,
+    pub size: usize,
+}
+
+// The end of every call's line.
+fn show(s: Play, t: &[u8]) {
+    let clock = s.clock;
+    let size = s.size;
+    print_clock(clock);
+    if size <= t.len() {
+        print_table(&t[0..size]);
+    }
+    end_line();
+}
+
+fn happened(s: Play, t: &[u8], e: Event) -> Play {
+    let answer = e.answer;
+    let clock = e.clock;
+    let after = Play {
+        clock,
+        size: s.size,
+    };
+    print_answer(answer);
+    show(after, t);
+    after
+}
+
+fn replied(s: Play, t: &[u8], r: Reply, out: &[u8]) -> Play {
+    let answer = r.answer;
+    let clock = r.clock;
+    let after = Play {
+        clock,
+        size: s.size,
+    };
+    print_answer(answer);
+    print_response(out, r.len);
+    show(after, t);
+    after
+}
+
+fn fill(t: &mut [u8]) {
+    let mut i = 0;
+    while i < t.len() {
+        t[i] = 0xAA;
+        i += 1;
+    }
+}
+
+fn play_start(s: Play, t: &mut [u8], size: usize) -> Play {
+    if t.len() < size {
+        return s;
+    }
+    fill(t);
+    let e = start(&mut t[0..size]);
+    let clock = e.clock;
+    let begun = Play { clock, size };
+    happened(begun, t, e)
+}
+
+fn play_seconds(s: Play, t: &[u8], n: u32) -> Play {
+    let clock = s.clock;
+    happened(s, t, seconds(clock, n))
+}
+
+fn play_switches(s: Play, t: &[u8], dtcp: u8, racp: u8, log: u8) -> Play {
+    let clock = s.clock;
+    happened(s, t, switches(clock, dtcp != 0, racp != 0, log != 0))
+}
+
+fn play_disconnect(s: Play, t: &[u8]) -> Play {
+    let clock = s.clock;
+    happened(s, t, disconnect(clock))
+}
+
+fn fault_into(s: Play, t: &mut [u8], out: &mut [u8]) -> Play {
+    let clock = s.clock;
+    let size = s.size;
+    if t.len() < size {
+        return s;
+    }
+    let r = fault(clock, &mut t[0..size], out);
+    replied(s, t, r, out)
+}
+
+fn play_fault(s: Play, t: &mut [u8], room: usize) -> Play {
+    if 64 < room {
+        return s;
+    }
+    let mut out = [0xAAu8; 64];
+    fault_into(s, t, &mut out[0..room])
+}
+
+fn write_into(s: Play, t: &mut [u8], write: &[u8], out: &mut [u8]) -> Play {
+    let clock = s.clock;
+    let size = s.size;
+    if t.len() < size {
+        return s;
+    }
+    let r = time_update(clock, &mut t[0..size], write, out);
+    replied(s, t, r, out)
+}
+
+fn play_write(s: Play, t: &mut [u8], write: &[u8], room: usize) -> Play {
+    if 64 < room {
+        return s;
+    }
+    let mut out = [0xAAu8; 64];
+    write_into(s, t, write, &mut out[0..room])
+}
+
+fn with_field(c: Clock, field: u8, value: u32) -> Clock {
+    let mut after = c;
+    match field {
+        0 => after.base = value,
+        1 => after.zone = (value % 256) as u8,
+        2 => after.dst = (value % 256) as u8,
+        3 => after.source = (value % 256) as u8,
+        4 => after.accuracy = (value % 256) as u8,
+        5 => after.status = (value % 65536) as u16,
+        6 => after.faults = (value % 65536) as u16,
+        _ => after.aligned = value,
+    }
+    after
+}
+
+fn set_field(s: Play, field: u8, value: u32) -> Play {
+    let clock = s.clock;
+    Play {
+        clock: with_field(clock, field, value),
+        size: s.size,
+    }
+}
+
+fn filter_of(operator: u8, min: u16, max: u16) -> Filter {
+    match operator {
+        2 => Filter::AtMost(max),
+        3 => Filter::AtLeast(min),
+        4 => Filter::Range(min, max),
+        5 => Filter::First,
+        6 => Filter::Last,
+        _ => Filter::All,
+    }
+}
+
+fn left_of(any: u8, number: u16, sent: u8) -> Left {
+    if any == 0 {
+        return Left::Nothing;
+    }
+    Left::From(number, sent)
+}
+
+fn report_of(command: &[u8]) -> Report {
+    let operator = byte_at(command, 2);
+    let min = short_at(command, 3);
+    let max = short_at(command, 5);
+    let any = byte_at(command, 8);
+    let number = short_at(command, 9);
+    Report {
+        opcode: byte_at(command, 1),
+        filter: filter_of(operator, min, max),
+        counter: byte_at(command, 7),
+        left: left_of(any, number, byte_at(command, 11)),
+    }
+}
+
+fn with_report(c: Clock, report: Report) -> Clock {
+    Clock {
+        base: c.base,
+        zone: c.zone,
+        dst: c.dst,
+        source: c.source,
+        accuracy: c.accuracy,
+        status: c.status,
+        faults: c.faults,
+        aligned: c.aligned,
+        dtcp: c.dtcp,
+        racp: c.racp,
+        log: c.log,
+        running: Running::Reporting(report),
+    }
+}
+
+fn set_report(s: Play, report: Report) -> Play {
+    let clock = s.clock;
+    Play {
+        clock: with_report(clock, report),
+        size: s.size,
+    }
+}
+
+fn set_bytes(s: Play, t: &mut [u8], at: usize, bytes: &[u8]) -> Play {
+    if t.len() < at {
+        return s;
+    }
+    if t.len() - at < bytes.len() {
+        return s;
+    }
+    put(t, at, bytes);
+    s
+}
+
+fn set_size(s: Play, size: usize) -> Play {
+    let clock = s.clock;
+    Play { clock, size }
+}
+
+fn tell_sound(s: Play, t: &[u8]) -> Play {
+    let size = s.size;
+    if size <= t.len() {
+        print_sound(sound(&t[0..size]));
+    }
+    s
+}
+
+fn tell_bytes(s: Play, t: &[u8], at: usize, len: usize) -> Play {
+    if t.len() < at {
+        return s;
+    }
+    if t.len() - at < len {
+        return s;
+    }
+    let end = at + len;
+    print_bytes(&t[at..end]);
+    end_line();
+    s
+}
+
+// The commands that change the buffer.
+fn play_table(s: Play, t: &mut [u8], command: &[u8]) -> Play {
+    let first = byte_at(command, 1);
+    match byte_at(command, 0) {
+        0x01 => play_start(s, t, number_at(command, 1) as usize),
+        0x05 => play_fault(s, t, first as usize),
+        0x06 => {
+            if command.len() < 2 {
+                return s;
+            }
+            play_write(s, t, &command[2..], first as usize)
+        }
+        0x12 => {
+            if command.len() < 5 {
+                return s;
+            }
+            set_bytes(s, t, number_at(command, 1) as usize, &command[5..])
+        }
+        _ => s,
+    }
+}
+
+// The commands that leave the buffer alone.
+fn play_clock(s: Play, t: &[u8], command: &[u8]) -> Play {
+    let first = byte_at(command, 1);
+    let number = number_at(command, 1);
+    match byte_at(command, 0) {
+        0x02 => play_seconds(s, t, number),
+        0x03 => play_switches(s, t, first, byte_at(command, 2), byte_at(command, 3)),
+        0x04 => play_disconnect(s, t),
+        0x10 => set_field(s, first, number_at(command, 2)),
+        0x11 => set_report(s, report_of(command)),
+        0x13 => set_size(s, number as usize),
+        0x14 => tell_sound(s, t),
+        0x15 => tell_bytes(s, t, number as usize, byte_at(command, 5) as usize),
+        _ => s,
+    }
+}
+
+pub fn play_command(s: Play, t: &mut [u8], command: &[u8]) -> Play {
+    let after = play_table(s, t, command);
+    play_clock(after, t, command)
+}
