@@ -1,8 +1,8 @@
--- What it says that no ground applies: each test is false, so the proposal is in range.
+-- The flags told one after the other; what it says that no ground applies: each test is false, so the proposal is in range.
 -- Assumes nothing.
-use mathlib.Core.Path.{_≡_, refl}
-use mathlib.Core.Bool.{Bool, true, false}
-use Prim.Native.Nat.{ℕ, _≤_}
+use mathlib.Core.Path.{_≡_, refl, sym}
+use mathlib.Core.Bool.{Bool, true, false, not}
+use Prim.Native.Nat.{ℕ, _+_}
 use native.Mathlib.Omega.{arith}
 use borrow.Author.Tests.{not-false}
 use Rattle.octets.specs.Choice.{both}
@@ -10,14 +10,16 @@ use Rattle.octets.proofs.Tests.{both-reads}
 use Rattle.rules.specs.Rules.{baseB, zoneB, dstB, sourceB}
 use Rattle.rules.proofs.RangeLaws.{base-reads}
 use Rattle.clock.specs.declared.state.Clock.{Clock}
-use Rattle.update.specs.Grounds.{outOfRange, rangeB, flagIf, groundsOf, InRange}
+use Rattle.update.specs.Grounds.{unrealistic, outOfRange, lowerQuality, wrongEpoch, epochB, rangeB, lowerB, unrealisticB, flagIf, groundsOf, InRange}
 use Rattle.update.specs.declared.proposal.Proposal.{Proposal}
 
--- a flag is no larger than itself, whether its ground applies or not
-pub flag-small : (b : Bool) (f r : ℕ) → r ≡ flagIf b f → r ≤ f
-unfolding flagIf
-flag-small true f r h = omega arith
-flag-small false f r h = omega arith
+-- the flags told one after the other, last ground first, are all that apply
+pub grounds-told : (c : Clock) (p : Proposal) (forced far lower range epoch : Bool) (told1 told2 told3 told4 : ℕ)
+    → far ≡ both (not forced) (unrealisticB c p) → lower ≡ both (not forced) (lowerB c p) → range ≡ rangeB p → epoch ≡ epochB p
+    → told1 ≡ 0 + flagIf far unrealistic → told2 ≡ told1 + flagIf lower lowerQuality → told3 ≡ told2 + flagIf range outOfRange
+    → told4 ≡ told3 + flagIf epoch wrongEpoch → told4 ≡ groundsOf c p forced
+unfolding groundsOf
+grounds-told c p forced far lower range epoch told1 told2 told3 told4 hf hl hr he h1 h2 h3 h4 = rw (sym hf, sym hl, sym hr, sym he) (omega arith)
 
 range-reads : (p : Proposal) → rangeB p ≡ false → InRange p
 unfolding rangeB

@@ -10,7 +10,7 @@ use Rattle.update.specs.Proposal.{proposalAt}
 use Rattle.update.specs.Grades.{clockGrade, gradeOf}
 use Rattle.update.specs.Grounds.{unrealistic, outOfRange, lowerQuality, wrongEpoch, groundsOf}
 use Rattle.update.specs.Decide.{proposeOpcode, forceOpcode, decideOf}
-use Rattle.update.specs.Accept.{acceptedOf, updateRecord}
+use Rattle.update.specs.Accept.{acceptedOf, loggedB, updateRecord}
 use Rattle.update.specs.Response.{responseOf}
 use Rattle.update.specs.Cases.{f2}
 use Rattle.update.specs.declared.proposal.Proposal.{Proposal}
@@ -26,6 +26,7 @@ pub record OneOutcome : Type 0 where
   pub grounds : (c : Clock) (p : Proposal) (f : Bool) (x y : ℕ) → x ≡ groundsOf c p f → y ≡ groundsOf c p f → x ≡ y
   pub decide : (c : Clock) (w : List ℕ) (x y : Decision) → x ≡ decideOf c w → y ≡ decideOf c w → x ≡ y
   pub accepted : (c : Clock) (p : Proposal) (x y : Clock) → x ≡ acceptedOf c p → y ≡ acceptedOf c p → x ≡ y
+  pub is-logged : (c : Clock) (p : Proposal) (x y : Bool) → x ≡ loggedB c p → y ≡ loggedB c p → x ≡ y
   pub update-record : (c : Clock) (p : Proposal) (n : ℕ) (x y : Record) → x ≡ updateRecord c p n → y ≡ updateRecord c p n → x ≡ y
   pub response-of : (o : ℕ) (d : Decision) (x y : Response) → x ≡ responseOf o d → y ≡ responseOf o d → x ≡ y
 

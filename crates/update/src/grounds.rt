@@ -10,6 +10,7 @@ use rules::fields::dst_ok;
 use rules::fields::source_ok;
 use rules::fields::zone_ok;
 ghost use mathlib.Core.Path.{_≡_};
+ghost use Prim.Native.Nat.{_+_, _≤_};
 ghost use Rattle.update.specs.Grounds.{flagIf, secondsApart, epochB, rangeB, lowerB, unrealisticB, groundsOf};
 
 // The rejection flags, in the positions of Table 3.22.
@@ -24,15 +25,16 @@ pub const WRONG_EPOCH: u16 = 0x0040;
 // How far a proposal may lie from the time of a UTC-aligned clock.
 pub const REALISTIC_SECONDS: u32 = 86_400;
 
-// The flag where its ground applies, else 0.
-fn flag_if(applies: bool, flag: u16) -> u16
-    ensures { λ r. ⌜ r ≡ flagIf applies flag ⌝ }
+// The flags told so far, and this one where its ground applies.
+fn also(flags: u16, applies: bool, flag: u16) -> u16
+    requires { ⌜ flags + flag ≤ 65535 ⌝ }
+    ensures { λ r. ⌜ (r ≡ flags + flagIf applies flag) × (r ≤ flags + flag) ⌝ }
 {
-    if applies { flag } else { 0 }
+    if applies { flags + flag } else { flags }
 }
 
 // The larger minus the smaller: a clock may be set back.
-fn seconds_apart(a: u32, b: u32) -> u32
+pub(crate) fn seconds_apart(a: u32, b: u32) -> u32
     ensures { λ r. ⌜ r ≡ secondsApart a b ⌝ }
 {
     if a < b { b - a } else { a - b }
@@ -67,15 +69,14 @@ fn unrealistic(c: Clock, p: Proposal) -> bool
     both(aligned, REALISTIC_SECONDS < apart)
 }
 
-// All flags that apply, added up; 0 where there is no ground. Quality and realism are asked of a Propose
-// only.
+// All flags that apply, whichever came before; 0 where there is no ground. Quality and realism are asked of
+// a Propose only.
 pub fn grounds(c: Clock, p: Proposal, forced: bool) -> u16
     ensures { λ r. ⌜ r ≡ groundsOf c p forced ⌝ }
 {
     let proposed = !forced;
-    let epoch = flag_if(wrong_epoch(p), WRONG_EPOCH);
-    let range = flag_if(out_of_range(p), OUT_OF_RANGE);
-    let lower = flag_if(both(proposed, lower_quality(c, p)), LOWER_QUALITY);
-    let far = flag_if(both(proposed, unrealistic(c, p)), UNREALISTIC);
-    epoch + range + lower + far
+    let far = also(0, both(proposed, unrealistic(c, p)), UNREALISTIC);
+    let lower = also(far, both(proposed, lower_quality(c, p)), LOWER_QUALITY);
+    let range = also(lower, out_of_range(p), OUT_OF_RANGE);
+    also(range, wrong_epoch(p), WRONG_EPOCH)
 }

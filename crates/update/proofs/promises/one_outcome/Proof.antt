@@ -13,6 +13,7 @@ returns c =
       grounds = λ c g f x y p q. p ∙ sym q;
       decide = λ c w x y p q. p ∙ sym q;
       accepted = λ c g x y p q. p ∙ sym q;
+      is-logged = λ c g x y p q. p ∙ sym q;
       update-record = λ c g n x y p q. p ∙ sym q;
       response-of = λ o d x y p q. p ∙ sym q;
     }
