@@ -24,8 +24,8 @@
 //
 // 01 to 06 are calls, and print a line each: the answer's number and its ATT error, for 05 and 06 the response
 // and whether the output past it still is AA, the clock (zone and status in hex; the switches DTCP, RACP, log),
-// the table's header, a sum of all its bytes, and its newest record. A command that does not fit, as a table
-// longer than the buffer, does nothing.
+// the table's header, a sum of all its bytes, and its newest record. 10 to 13 print clock and table likewise,
+// after the word `set`. A command that does not fit, as a table longer than the buffer, does nothing.
 mod play;
 mod print;
 mod script;

@@ -4,6 +4,7 @@ use crate::print::print_answer;
 use crate::print::print_bytes;
 use crate::print::print_clock;
 use crate::print::print_response;
+use crate::print::print_set;
 use crate::print::print_sound;
 use crate::print::print_table;
 use crate::script::byte_at;
@@ -40,6 +41,13 @@ fn show(s: Play, t: &[u8]) {
         print_table(&t[0..size]);
     }
     end_line();
+}
+
+// What a command set up, so that the next call's line shows what it changed.
+fn told(s: Play, t: &[u8]) -> Play {
+    print_set();
+    show(s, t);
+    s
 }
 
 fn happened(s: Play, t: &[u8], e: Event) -> Play {
@@ -270,7 +278,8 @@ fn play_table(s: Play, t: &mut [u8], command: &[u8]) -> Play {
             if command.len() < 5 {
                 return s;
             }
-            set_bytes(s, t, number_at(command, 1) as usize, &command[5..])
+            let after = set_bytes(s, t, number_at(command, 1) as usize, &command[5..]);
+            told(after, t)
         }
         _ => s,
     }
@@ -284,9 +293,9 @@ fn play_clock(s: Play, t: &[u8], command: &[u8]) -> Play {
         0x02 => play_seconds(s, t, number),
         0x03 => play_switches(s, t, first, byte_at(command, 2), byte_at(command, 3)),
         0x04 => play_disconnect(s, t),
-        0x10 => set_field(s, first, number_at(command, 2)),
-        0x11 => set_report(s, report_of(command)),
-        0x13 => set_size(s, number as usize),
+        0x10 => told(set_field(s, first, number_at(command, 2)), t),
+        0x11 => told(set_report(s, report_of(command)), t),
+        0x13 => told(set_size(s, number as usize), t),
         0x14 => tell_sound(s, t),
         0x15 => tell_bytes(s, t, number as usize, byte_at(command, 5) as usize),
         _ => s,

@@ -53,6 +53,10 @@ pub fn print_answer(answer: Answer) {
     print_hex(b" att ", att_error_of(answer) as u64, 2);
 }
 
+pub fn print_set() {
+    print_text(b"set");
+}
+
 pub fn print_sound(sound: bool) {
     if sound {
         print_text(b"sound\n");
