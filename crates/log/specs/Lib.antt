@@ -1,5 +1,4 @@
 pub mod Table
 pub mod Rules
 pub mod Writing
-pub mod Matching
 pub mod Promises
