@@ -12,6 +12,8 @@
 //     04                       disconnect
 //     05 OO                    fault, with an output of O bytes (at most 64), AA before
 //     06 OO BB ..              DTCP write of the bytes B, with such an output
+//     07 OO BB ..              RACP write of the bytes B, with such an output
+//     08 PP PP PP PP OO OO     notification of payload size P, with an output of O bytes (at most 320), AA before
 //     10 FF VV VV VV VV        the clock's field F becomes V: 0 base, 1 zone, 2 DST, 3 source, 4 accuracy,
 //                              5 status, 6 fault count, 7 last UTC-aligned value
 //     11 OP FF MI MI MA MA CC HH NN NN SS
@@ -21,11 +23,15 @@
 //     13 SS SS SS SS           from here on the table is the buffer's first S bytes
 //     14                       print whether the table is sound
 //     15 AA AA AA AA LL        print L bytes of the buffer from A on
+//     20 PP CC LL BB ..        the joining state: phase, counter, length, bytes; zeros after them
+//     21 BB ..                 join the notification B
+//     22 BB ..                 read the record B
+//     23 SS SS SS SS QQ QQ     carry the stamp S with its next number Q
 //
-// 01 to 06 are calls, and print a line each: the answer's number and its ATT error, for 05 and 06 the response
-// and whether the output past it still is AA, the clock (zone and status in hex; the switches DTCP, RACP, log),
+// 01 to 08 are calls, and print a line each: the answer's number and its ATT error, for 05 to 08 the response,
+// segment or closing response and whether the output past it still is AA, the clock (zone and status in hex; the switches DTCP, RACP, log),
 // the table's header, a sum of all its bytes, and its newest record. 10 to 13 print clock and table likewise,
-// after the word `set`. A command that does not fit, as a table longer than the buffer, does nothing.
+// after the word `set`. 20 and 21 print the joining state, 22 and 23 their answer. A command that does not fit, as a table longer than the buffer, does nothing.
 mod play;
 mod print;
 mod script;
@@ -37,6 +43,7 @@ use print::print_line;
 use script::Command;
 use script::command_in;
 use script::line_end;
+use tablet::joining::restart;
 ghost use mathlib.Core.Path.{_≡_};
 ghost use lib.ListN.{length};
 
@@ -68,6 +75,7 @@ fn play_script(script: &[u8], t: &mut [u8]) {
     let mut s = Play {
         clock: new_reader(),
         size: 0,
+        joining: restart(),
     };
     let mut from = 0;
     while from < script.len() {

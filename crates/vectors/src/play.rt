@@ -2,14 +2,21 @@
 use crate::print::end_line;
 use crate::print::print_answer;
 use crate::print::print_bytes;
+use crate::print::print_carried;
 use crate::print::print_clock;
+use crate::print::print_joining;
+use crate::print::print_notice;
+use crate::print::print_plain;
 use crate::print::print_response;
 use crate::print::print_set;
 use crate::print::print_sound;
 use crate::print::print_table;
 use crate::script::byte_at;
 use crate::script::number_at;
+use crate::script::rest;
 use crate::script::short_at;
+use carry::stamp::Carried;
+use carry::stamp::carry;
 use clock::events::Event;
 use clock::events::disconnect;
 use clock::events::seconds;
@@ -21,15 +28,30 @@ use clock::state::Running;
 use filter::request::Filter;
 use log::sound::sound;
 use octets::parts::put;
+use record::reading::read;
 use service::fault::fault;
 use service::reply::Reply;
 use service::start::start;
 use service::time_update::time_update;
+use tablet::joining::Joining;
+use tablet::joining::join;
+use transfer::notify::Notified;
+use transfer::notify::notify;
+use transfer::record_access::record_access;
 
-// The clock, and how many bytes of the buffer are the table.
+// The clock, how many bytes of the buffer are the table, and the joining state.
 pub struct Play {
     pub clock: Clock,
     pub size: usize,
+    pub joining: Joining,
+}
+
+fn with_clock(s: Play, clock: Clock) -> Play {
+    Play {
+        clock,
+        size: s.size,
+        joining: s.joining,
+    }
 }
 
 // The end of every call's line.
@@ -53,10 +75,7 @@ fn told(s: Play, t: &[u8]) -> Play {
 fn happened(s: Play, t: &[u8], e: Event) -> Play {
     let answer = e.answer;
     let clock = e.clock;
-    let after = Play {
-        clock,
-        size: s.size,
-    };
+    let after = with_clock(s, clock);
     print_answer(answer);
     show(after, t);
     after
@@ -65,12 +84,19 @@ fn happened(s: Play, t: &[u8], e: Event) -> Play {
 fn replied(s: Play, t: &[u8], r: Reply, out: &[u8]) -> Play {
     let answer = r.answer;
     let clock = r.clock;
-    let after = Play {
-        clock,
-        size: s.size,
-    };
+    let after = with_clock(s, clock);
     print_answer(answer);
     print_response(out, r.len);
+    show(after, t);
+    after
+}
+
+fn notified(s: Play, t: &[u8], n: Notified, out: &[u8]) -> Play {
+    let answer = n.answer;
+    let clock = n.clock;
+    let after = with_clock(s, clock);
+    print_answer(answer);
+    print_notice(n.closes, out, n.len);
     show(after, t);
     after
 }
@@ -89,9 +115,7 @@ fn play_start(s: Play, t: &mut [u8], size: usize) -> Play {
     }
     fill(t);
     let e = start(&mut t[0..size]);
-    let clock = e.clock;
-    let begun = Play { clock, size };
-    happened(begun, t, e)
+    happened(set_size(s, size), t, e)
 }
 
 fn play_seconds(s: Play, t: &[u8], n: u32) -> Play {
@@ -145,6 +169,107 @@ fn play_write(s: Play, t: &mut [u8], write: &[u8], room: usize) -> Play {
     write_into(s, t, write, &mut out[0..room])
 }
 
+fn access_into(s: Play, t: &[u8], write: &[u8], out: &mut [u8]) -> Play {
+    let clock = s.clock;
+    let size = s.size;
+    if t.len() < size {
+        return s;
+    }
+    let r = record_access(clock, &t[0..size], write, out);
+    replied(s, t, r, out)
+}
+
+fn play_access(s: Play, t: &[u8], write: &[u8], room: usize) -> Play {
+    if 64 < room {
+        return s;
+    }
+    let mut out = [0xAAu8; 64];
+    access_into(s, t, write, &mut out[0..room])
+}
+
+fn notify_into(s: Play, t: &[u8], p: u32, out: &mut [u8]) -> Play {
+    let clock = s.clock;
+    let size = s.size;
+    if t.len() < size {
+        return s;
+    }
+    let n = notify(clock, &t[0..size], p, out);
+    notified(s, t, n, out)
+}
+
+fn play_notify(s: Play, t: &[u8], p: u32, room: usize) -> Play {
+    if 320 < room {
+        return s;
+    }
+    let mut out = [0xAAu8; 320];
+    notify_into(s, t, p, &mut out[0..room])
+}
+
+fn with_joining(s: Play, joining: Joining) -> Play {
+    let clock = s.clock;
+    Play {
+        clock,
+        size: s.size,
+        joining,
+    }
+}
+
+fn joining_of(phase: u8, counter: u8, len: u8, from: &[u8]) -> Joining {
+    let mut bytes = [0u8; 45];
+    if from.len() <= 45 {
+        put(&mut bytes, 0, from);
+    }
+    Joining {
+        phase,
+        counter,
+        len,
+        bytes,
+    }
+}
+
+fn set_joining(s: Play, joining: Joining) -> Play {
+    print_set();
+    print_joining(joining);
+    end_line();
+    with_joining(s, joining)
+}
+
+fn play_join(s: Play, note: &[u8]) -> Play {
+    let before = s.joining;
+    let joined = join(before, note);
+    let answer = joined.answer;
+    let joining = joined.joining;
+    print_plain(tablet::joining::number_of(answer));
+    print_joining(joining);
+    end_line();
+    with_joining(s, joining)
+}
+
+fn tell_read(s: Play, bytes: &[u8]) -> Play {
+    print_plain(record::reading::number_of(read(bytes)));
+    end_line();
+    s
+}
+
+fn print_if_carried(carried: Carried) {
+    let Carried::To(z) = carried else {
+        return;
+    };
+    print_carried(z);
+}
+
+fn tell_carried(s: Play, t: &[u8], stamp: u32, q: u16) -> Play {
+    let size = s.size;
+    if t.len() < size {
+        return s;
+    }
+    let carried = carry(stamp, q, &t[0..size]);
+    print_plain(carry::stamp::number_of(carried));
+    print_if_carried(carried);
+    end_line();
+    s
+}
+
 fn with_field(c: Clock, field: u8, value: u32) -> Clock {
     let mut after = c;
     match field {
@@ -162,10 +287,7 @@ fn with_field(c: Clock, field: u8, value: u32) -> Clock {
 
 fn set_field(s: Play, field: u8, value: u32) -> Play {
     let clock = s.clock;
-    Play {
-        clock: with_field(clock, field, value),
-        size: s.size,
-    }
+    with_clock(s, with_field(clock, field, value))
 }
 
 fn filter_of(operator: u8, min: u16, max: u16) -> Filter {
@@ -219,10 +341,7 @@ fn with_report(c: Clock, report: Report) -> Clock {
 
 fn set_report(s: Play, report: Report) -> Play {
     let clock = s.clock;
-    Play {
-        clock: with_report(clock, report),
-        size: s.size,
-    }
+    with_clock(s, with_report(clock, report))
 }
 
 fn set_bytes(s: Play, t: &mut [u8], at: usize, bytes: &[u8]) -> Play {
@@ -238,7 +357,12 @@ fn set_bytes(s: Play, t: &mut [u8], at: usize, bytes: &[u8]) -> Play {
 
 fn set_size(s: Play, size: usize) -> Play {
     let clock = s.clock;
-    Play { clock, size }
+    let joining = s.joining;
+    Play {
+        clock,
+        size,
+        joining,
+    }
 }
 
 fn tell_sound(s: Play, t: &[u8]) -> Play {
@@ -268,17 +392,9 @@ fn play_table(s: Play, t: &mut [u8], command: &[u8]) -> Play {
     match byte_at(command, 0) {
         0x01 => play_start(s, t, number_at(command, 1) as usize),
         0x05 => play_fault(s, t, first as usize),
-        0x06 => {
-            if command.len() < 2 {
-                return s;
-            }
-            play_write(s, t, &command[2..], first as usize)
-        }
+        0x06 => play_write(s, t, rest(command, 2), first as usize),
         0x12 => {
-            if command.len() < 5 {
-                return s;
-            }
-            let after = set_bytes(s, t, number_at(command, 1) as usize, &command[5..]);
+            let after = set_bytes(s, t, number_at(command, 1) as usize, rest(command, 5));
             told(after, t)
         }
         _ => s,
@@ -302,7 +418,26 @@ fn play_clock(s: Play, t: &[u8], command: &[u8]) -> Play {
     }
 }
 
+// The commands of reports, joining, reading and carrying.
+fn play_report(s: Play, t: &[u8], command: &[u8]) -> Play {
+    let first = byte_at(command, 1);
+    let second = byte_at(command, 2);
+    let third = byte_at(command, 3);
+    let number = number_at(command, 1);
+    let room = short_at(command, 5);
+    match byte_at(command, 0) {
+        0x07 => play_access(s, t, rest(command, 2), first as usize),
+        0x08 => play_notify(s, t, number, room as usize),
+        0x20 => set_joining(s, joining_of(first, second, third, rest(command, 4))),
+        0x21 => play_join(s, rest(command, 1)),
+        0x22 => tell_read(s, rest(command, 1)),
+        0x23 => tell_carried(s, t, number, room),
+        _ => s,
+    }
+}
+
 pub fn play_command(s: Play, t: &mut [u8], command: &[u8]) -> Play {
     let after = play_table(s, t, command);
-    play_clock(after, t, command)
+    let later = play_clock(after, t, command);
+    play_report(later, t, command)
 }

@@ -10,6 +10,7 @@ use clock::state::Running;
 use filter::request::Filter;
 use octets::numbers::get16;
 use octets::numbers::get32;
+use tablet::joining::Joining;
 ghost use Prim.Native.Nat.{_≤_};
 ghost use lib.ListN.{length};
 
@@ -84,14 +85,50 @@ fn print_past(past: &[u8]) {
     }
 }
 
-// The first `len` bytes of the output are the response.
-pub fn print_response(out: &[u8], len: usize) {
+// The first `len` bytes of the output, under a name.
+pub fn print_output(name: &[u8], out: &[u8], len: usize) {
     if out.len() < len {
         return;
     }
-    print_text(b" response");
+    print_text(name);
     print_bytes(&out[0..len]);
     print_past(&out[len..]);
+}
+
+pub fn print_response(out: &[u8], len: usize) {
+    print_output(b" response", out, len);
+}
+
+// A segment, or the closing response.
+pub fn print_notice(closes: bool, out: &[u8], len: usize) {
+    if closes {
+        print_output(b" closing", out, len);
+    } else {
+        print_output(b" segment", out, len);
+    }
+}
+
+// Numbers 10 to 14 come without an ATT error.
+pub fn print_plain(number: u8) {
+    print_number(b"answer ", number as u64);
+}
+
+pub fn print_joining(j: Joining) {
+    let bytes = j.bytes;
+    print_number(b" phase ", j.phase as u64);
+    print_number(b" counter ", j.counter as u64);
+    print_number(b" length ", j.len as u64);
+    print_text(b" bytes");
+    print_bytes(&bytes);
+}
+
+pub fn print_carried(z: i64) {
+    print_text(b" carried");
+    if z < 0 {
+        print_number(b" -", z.unsigned_abs());
+        return;
+    }
+    print_number(b" ", z as u64);
 }
 
 fn print_filter(f: Filter) {

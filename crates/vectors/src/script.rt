@@ -69,6 +69,14 @@ pub fn byte_at(command: &[u8], at: usize) -> u8 {
     if at < command.len() { command[at] } else { 0 }
 }
 
+// A command's bytes from one on; none where it is shorter.
+pub fn rest(command: &[u8], from: usize) -> &[u8] {
+    if command.len() < from {
+        return &command[0..0];
+    }
+    &command[from..]
+}
+
 fn join2(high: u8, low: u8) -> u16 {
     256 * (high as u16) + low as u16
 }
