@@ -25,7 +25,9 @@ fn opcode_ok(opcode: u8) -> bool
     }
 }
 
-fn filter_ok(f: Filter) -> bool
+// Also the last check of a filter that is asked for (document 01, "RACP and notifications"): a range's
+// minimum is not above its maximum. Refuses nothing.
+pub fn filter_ok(f: Filter) -> bool
     ensures { λ r. ⌜ r ≡ filterB f ⌝ }
 {
     match f {

@@ -11,8 +11,8 @@ pub struct Reply {
     pub len: usize,
 }
 
-// 0 means done.
-pub(crate) fn done(a: Answer) -> bool
+// 0 means done. `pub` for the calls of the crate `transfer`.
+pub fn done(a: Answer) -> bool
     ensures { λ r. ⌜ r ≡ doneB a ⌝ }
 {
     match a {

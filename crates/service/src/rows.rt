@@ -1,4 +1,5 @@
-// The rows of document 01, "Refusal numbers, tested in this order", that calls with a table share.
+// The rows of document 01, "Refusal numbers, tested in this order", that calls with a table share. `pub`
+// for the calls of the crate `transfer`.
 use crate::reply::done;
 use clock::answers::Answer;
 use clock::obeys::clock_ok;
@@ -52,7 +53,7 @@ fn running_ok(t: &[u8], running: Running) -> bool
     }
 }
 
-pub(crate) fn idle(running: Running) -> bool
+pub fn idle(running: Running) -> bool
     ensures { λ r. ⌜ r ≡ idleB running ⌝ }
 {
     match running {
@@ -62,7 +63,7 @@ pub(crate) fn idle(running: Running) -> bool
 }
 
 // Rows 1, 2 whole, 3: the table, the clock with it, room in the output.
-pub(crate) fn table_rows(c: Clock, t: &[u8], room: bool) -> Answer
+pub fn table_rows(c: Clock, t: &[u8], room: bool) -> Answer
     ensures { λ a. ⌜ a ≡ firstFailed (tableRows c (now (t .entry)) room) ⌝ }
 {
     if !sound(t) {
@@ -82,7 +83,7 @@ pub(crate) fn table_rows(c: Clock, t: &[u8], room: bool) -> Answer
 }
 
 // Rows 4, 5, 6: the write's length, its switches, no report in its way.
-pub(crate) fn write_rows(len: usize, on: bool, free: bool) -> Answer
+pub fn write_rows(len: usize, on: bool, free: bool) -> Answer
     ensures { λ a. ⌜ a ≡ firstFailed (writeRows len on free) ⌝ }
 {
     if len < 1 {
@@ -101,7 +102,7 @@ pub(crate) fn write_rows(len: usize, on: bool, free: bool) -> Answer
 }
 
 // The first refusal of two rows of rows.
-pub(crate) fn and_then(first: Answer, second: Answer) -> Answer
+pub fn and_then(first: Answer, second: Answer) -> Answer
     ensures { λ a. ⌜ a ≡ thenOf first second ⌝ }
 {
     if done(first) { second } else { first }

@@ -1,0 +1,5 @@
+pub mod Codes
+pub mod Request
+pub mod Response
+pub mod Cases
+pub mod Promises

@@ -1,0 +1,3 @@
+pub mod JoiningLaws
+pub mod ReadingLaws
+pub mod PromiseLaws

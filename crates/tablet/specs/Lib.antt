@@ -1,0 +1,4 @@
+pub mod Joining
+pub mod Reading
+pub mod Promises
+pub mod Cases

@@ -1,0 +1,9 @@
+-- Reading the record that was joined.
+use Rattle.record.specs.WellFormed.{readOf}
+use Rattle.record.specs.declared.kinds.Reading.{Reading}
+use Rattle.tablet.specs.Joining.{recordIn}
+use Rattle.tablet.specs.declared.joining.Joining.{Joining}
+
+-- the record of the bytes that stand in the state, or 11
+unfoldable pub readJoinedOf : Joining → Reading
+readJoinedOf j = readOf (recordIn j)

@@ -1,0 +1,4 @@
+// The tablet's half: notifications joined into records, and records read.
+pub mod joining;
+pub mod promises;
+pub mod reading;
