@@ -1,0 +1,6 @@
+pub mod TwelveLaws
+pub mod ShutLaws
+pub mod UpdateLaws
+pub mod AccessLaws
+pub mod FaultLaws
+pub mod TransferLaws

@@ -1,0 +1,49 @@
+-- Bytes that are bytes, bytes that differ, and a call that answers where no row fails and else refuses.
+-- Assumes nothing.
+use mathlib.Core.Path.{_≡_, refl, sym, _∙_, ap}
+use mathlib.Core.Bool.{Bool, true, false}
+use mathlib.Core.List.{List, [], _∷_}
+use Prim.Native.Nat.{ℕ, zero, suc, _<_}
+use native.Mathlib.Omega.{arith}
+use borrow.Author.Tests.{eq-eqb, ltb-true}
+use lib.Dec.{ltb, eqb}
+use Rattle.octets.specs.Choice.{both, pick}
+use Rattle.octets.specs.Numbers.{at}
+use Rattle.octets.specs.Parts.{Bytes}
+use Rattle.octets.proofs.Tests.{clash, both-reads}
+use Rattle.clock.specs.Answers.{numberOf}
+use Rattle.clock.specs.declared.answers.Answer.{Answer}
+use Rattle.clock.specs.declared.answers.Answer.the-variants.{Done}
+use Rattle.clock.specs.declared.state.Clock.{Clock}
+use Rattle.service.specs.Outcome.{doneB, refused, answered}
+
+-- a list of bytes, computed
+unfoldable pub bytesB : List ℕ → Bool
+bytesB [] = true
+bytesB (b ∷ l) = both (ltb b 256) (bytesB l)
+
+pub bytes-makes : (l : List ℕ) → bytesB l ≡ true → Bytes l
+unfolding bytesB
+bytes-makes l h = record { byte = go l h }
+  where
+    go : (l : List ℕ) → bytesB l ≡ true → (i : ℕ) → at l i < 256
+    go [] h i = omega arith
+    go (b ∷ l) h zero = ltb-true b 256 (both-reads (ltb b 256) (bytesB l) h .0)
+    go (b ∷ l) h (suc i) = go l (both-reads (ltb b 256) (bytesB l) h .1) i
+
+-- two byte strings with another byte at i
+pub differ : (i : ℕ) {x y : List ℕ} → x ≡ y → eqb (at x i) (at y i) ≡ false → ⊥
+differ i {x} {y} e h = clash (eqb (at x i) (at y i)) (eq-eqb (at x i) (at y i) (ap (λ (l : List ℕ). at l i) e)) h
+
+done-done : doneB Done ≡ true
+unfolding doneB numberOf
+done-done = refl
+
+pub done-is : (a : Answer) (after c : Clock) (s r t o : List ℕ)
+    → doneB (pick (doneB a) (answered after s r o) (refused a c t o) .reply .answer) ≡ doneB a
+unfolding answered
+done-is a after c s r t o = go (doneB a) refl
+  where
+    go : (b : Bool) → doneB a ≡ b → doneB (pick b (answered after s r o) (refused a c t o) .reply .answer) ≡ doneB a
+    go true e = done-done ∙ sym e
+    go false e = refl

@@ -1,0 +1,106 @@
+-- An accepted record access: the report runs, with every held record that matches left to send.
+-- Assumes nothing.
+use mathlib.Core.Path.{_≡_, refl, sym, _∙_, ap}
+use mathlib.Core.Bool.{true}
+use mathlib.Core.List.{List, [], _∷_}
+use Prim.Native.Nat.{ℕ}
+use native.Mathlib.Omega.{arith}
+use borrow.Author.Tests.{ne-eqb}
+use lib.Dec.{eqb}
+use lib.ListN.{length}
+use Rattle.octets.specs.Choice.{pick}
+use Rattle.octets.specs.Parts.{Bytes}
+use Rattle.filter.specs.declared.request.Filter.{Filter}
+use Rattle.record.specs.declared.kinds.Record.{Record}
+use Rattle.log.specs.Table.{count, soundB}
+use Rattle.held.specs.Matching.{matching}
+use Rattle.clock.specs.Rules.{opcodeB, filterB, clockB}
+use Rattle.clock.specs.declared.state.Clock.{Clock}
+use Rattle.clock.specs.declared.state.Left.{Left}
+use Rattle.clock.specs.declared.state.Left.the-variants.{From}
+use Rattle.clock.proofs.RuleLaws.{running-makes}
+use Rattle.service.specs.Outcome.{doneB, answered}
+use Rattle.service.specs.Promises.{World, world}
+use Rattle.service.proofs.RowLaws.{whole-reads}
+use Rattle.access.specs.Codes.{codeOf}
+use Rattle.access.specs.Request.{opcodeIn, requestOf}
+use Rattle.access.specs.Response.{codeBytes}
+use Rattle.access.specs.declared.request.Request.the-variants.{Report}
+use Rattle.transfer.specs.Report.{report, withRunning, leftFrom}
+use Rattle.transfer.specs.Access.{accessed, begunOf, accessedOf, responseIn, accessOf}
+use Rattle.promises.specs.World.{left}
+use Rattle.promises.specs.Reports.{responseTo, AcceptedReport, Accepted, begun}
+use Rattle.promises.proofs.HeldLaws.{Stands, none, some, left-stands}
+use Rattle.promises.proofs.RunLaws.{running-obeys, Runs}
+use Rattle.promises.proofs.RequestLaws.{request-report}
+use Rattle.promises.proofs.AccessLaws.{left-done, response-done, rows-passed, answered-passed}
+
+-- nothing left is answered with a response, something with none
+module _ (t : List ℕ) (sd : soundB t ≡ true) (opcode : ℕ) (f : Filter) (c : Clock) where
+  begun-response : {rest : Left} {sent : ℕ} {l : List Record} → Stands t sd f rest sent l
+      → responseIn (begunOf c opcode f rest) ≡ pick (eqb (length l) 0) (6 ∷ 0 ∷ opcode ∷ 6 ∷ []) []
+  unfolding begunOf accessed codeBytes codeOf
+  begun-response none = refl
+  begun-response (some {x = x} {rest = rest} h) = rw (ne-eqb (length (x ∷ rest)) 0 (λ e. omega arith))
+
+-- a report that is accepted runs
+module _ (t : List ℕ) (sd : soundB t ≡ true) (hb : Bytes t) (opcode : ℕ) (f : Filter) (c : Clock) (ok : clockB c ≡ true)
+    (h : (opcodeB opcode ≡ true) × (filterB f ≡ true)) where
+  begins : {rest : Left} {sent : ℕ} {l : List Record} → Stands t sd f rest sent l → responseIn (begunOf c opcode f rest) ≡ []
+      → Runs t sd hb opcode f (begunOf c opcode f rest .clock) 0 sent l
+  unfolding begunOf accessed codeBytes withRunning
+  begins none e = let n : _≡_ {A = ℕ} 4 0 = ap length e in absurd (omega arith)
+  begins (some {number} {sent} {x} {rest} s) e =
+      record {
+        clock = running-obeys c _ ok (running-makes (report opcode f 0 (From number sent)) (record { opcode = h .0; filter = h .1; counter = omega arith }));
+        rest = From number sent;
+        running = refl;
+        stands = some s;
+      }
+
+-- the rows that were passed, and what was found
+record Answered (v : World) (w o : List ℕ) (f : Filter) : Type 0 where
+  sound : soundB (v .table) ≡ true
+  clock : clockB (v .clock) ≡ true
+  stands : Stands (v .table) sound f (leftFrom f (v .table) 0) 0 (matching f (v .table))
+  response : responseTo v w o ≡ responseIn (begunOf (v .clock) (opcodeIn w) f (leftFrom f (v .table) 0))
+  after : begun v w o ≡ world (begunOf (v .clock) (opcodeIn w) f (leftFrom f (v .table) 0) .clock) (v .table)
+
+answered-report : (v : World) (w o : List ℕ) (f : Filter) (hb : Bytes (v .table)) → requestOf w ≡ Report f
+    → doneB (accessOf (v .clock) (v .table) w o .reply .answer) ≡ true → Answered v w o f
+unfolding matching accessedOf
+answered-report v w o f hb q h =
+    let c = v .clock in
+    let t = v .table in
+    let done = answered-passed c t w o h in
+    let rows = rows-passed c t w o done .0 in
+    record {
+      sound = rows .sound;
+      clock = whole-reads c t (rows .clock) .0;
+      stands = left-stands t (rows .sound) f hb (count t) 0 (omega arith);
+      response = rw q at (response-done c t w o done);
+      after = rw q at (left-done c t w o done);
+    }
+
+pub accepted-report : AcceptedReport
+accepted-report v w o f hb q h =
+    let a = answered-report v w o f hb q h in
+    a .response ∙ begun-response (v .table) (a .sound) (opcodeIn w) f (v .clock) (a .stands)
+
+-- the world of an accepted report
+pub record Begun (v : World) (w o : List ℕ) (f : Filter) (hb : Bytes (v .table)) : Type 0 where
+  pub sound : soundB (v .table) ≡ true
+  pub clock : Clock
+  pub is : begun v w o ≡ world clock (v .table)
+  pub runs : Runs (v .table) sound hb (opcodeIn w) f clock 0 0 (matching f (v .table))
+
+pub accepted : (v : World) (w o : List ℕ) (f : Filter) (hb : Bytes (v .table)) → Accepted v w o f → Begun v w o f hb
+accepted v w o f hb a =
+    let x = answered-report v w o f hb (a .asked) (a .done) in
+    record {
+      sound = x .sound;
+      clock = begunOf (v .clock) (opcodeIn w) f (leftFrom f (v .table) 0) .clock;
+      is = x .after;
+      runs = begins (v .table) (x .sound) hb (opcodeIn w) f (v .clock) (x .clock) (request-report w f (a .asked)) (x .stands)
+          (sym (x .response) ∙ a .silent);
+    }

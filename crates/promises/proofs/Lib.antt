@@ -1,0 +1,14 @@
+pub mod HeldLaws
+pub mod JoinLaws
+pub mod RequestLaws
+pub mod AccessLaws
+pub mod RunLaws
+pub mod StepLaws
+pub mod HeardLaws
+pub mod BeginLaws
+pub mod CloseLaws
+pub mod CalmLaws
+pub mod ReportLaws
+pub mod ReachLaws
+pub mod CaseLaws
+pub mod WrongLaws

@@ -1,0 +1,47 @@
+-- The reader as its radio calls it: "Clock and log go from each call to the next as the call left them" (document 01, "Carrying a stamp").
+use mathlib.Core.Bool.{Bool}
+use mathlib.Core.List.{List, [], _∷_}
+use Prim.Native.Nat.{ℕ}
+use Rattle.octets.specs.Parts.{Bytes}
+use Rattle.clock.specs.Events.{secondsOf, switchesOf, disconnectOf}
+use Rattle.clock.specs.declared.state.Clock.{Clock}
+use Rattle.service.specs.Fault.{faultOf}
+use Rattle.service.specs.Outcome.{Outcome}
+use Rattle.service.specs.Promises.{World, world}
+use Rattle.service.specs.Update.{updateOf}
+use Rattle.transfer.specs.Access.{accessOf}
+use Rattle.transfer.specs.Notify.{Notice, notifyOf}
+
+-- Every call of the server with what it is lent: o is the output, w a write, p a payload size. A write to the DTCP is bytes.
+pub data Call : Type 0 where
+  seconds : ℕ → Call
+  switches : Bool → Bool → Bool → Call
+  disconnect : Call
+  fault : (o : List ℕ) → Call
+  timeUpdate : (w o : List ℕ) → Bytes w → Call
+  recordAccess : (w o : List ℕ) → Call
+  notify : (p : ℕ) (o : List ℕ) → Call
+
+-- clock and table after a call that takes both
+abbrev pub left : Outcome → World
+left u = world (u .reply .clock) (u .table)
+
+-- how notifications are made: `notifyOf`, or a wrong way that a theorem shuts out
+abbrev pub Notifying : Type 0
+Notifying = Clock → List ℕ → ℕ → List ℕ → Notice
+
+unfoldable pub stepBy : Notifying → World → Call → World
+stepBy n v (seconds k) = world (secondsOf (v .clock) k .clock) (v .table)
+stepBy n v (switches a b d) = world (switchesOf (v .clock) a b d .clock) (v .table)
+stepBy n v disconnect = world (disconnectOf (v .clock) .clock) (v .table)
+stepBy n v (fault o) = left (faultOf (v .clock) (v .table) o)
+stepBy n v (timeUpdate w o h) = left (updateOf (v .clock) (v .table) w o)
+stepBy n v (recordAccess w o) = left (accessOf (v .clock) (v .table) w o)
+stepBy n v (notify p o) = world (n (v .clock) (v .table) p o .reply .clock) (v .table)
+
+abbrev pub stepOf : World → Call → World
+stepOf = stepBy notifyOf
+
+unfoldable pub runOf : World → List Call → World
+runOf v [] = v
+runOf v (k ∷ ks) = runOf (stepOf v k) ks

@@ -1,0 +1,6 @@
+pub mod Differences
+pub mod WentLaws
+pub mod StampLaws
+pub mod WriteLaws
+pub mod OneLaws
+pub mod WrongLaws

@@ -1,0 +1,3 @@
+pub mod Stamps
+pub mod Cases
+pub mod Wrong
