@@ -53,7 +53,7 @@ fn running_ok(t: &[u8], running: Running) -> bool
     }
 }
 
-pub fn idle(running: Running) -> bool
+pub(crate) fn idle(running: Running) -> bool
     ensures { λ r. ⌜ r ≡ idleB running ⌝ }
 {
     match running {

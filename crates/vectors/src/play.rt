@@ -2,7 +2,6 @@
 use crate::print::end_line;
 use crate::print::print_answer;
 use crate::print::print_bytes;
-use crate::print::print_carried;
 use crate::print::print_clock;
 use crate::print::print_joining;
 use crate::print::print_notice;
@@ -15,7 +14,6 @@ use crate::script::byte_at;
 use crate::script::number_at;
 use crate::script::rest;
 use crate::script::short_at;
-use carry::stamp::Carried;
 use carry::stamp::carry;
 use clock::events::Event;
 use clock::events::disconnect;
@@ -47,10 +45,11 @@ pub struct Play {
 }
 
 fn with_clock(s: Play, clock: Clock) -> Play {
+    let joining = s.joining;
     Play {
         clock,
         size: s.size,
-        joining: s.joining,
+        joining,
     }
 }
 
@@ -251,21 +250,12 @@ fn tell_read(s: Play, bytes: &[u8]) -> Play {
     s
 }
 
-fn print_if_carried(carried: Carried) {
-    let Carried::To(z) = carried else {
-        return;
-    };
-    print_carried(z);
-}
-
 fn tell_carried(s: Play, t: &[u8], stamp: u32, q: u16) -> Play {
     let size = s.size;
     if t.len() < size {
         return s;
     }
-    let carried = carry(stamp, q, &t[0..size]);
-    print_plain(carry::stamp::number_of(carried));
-    print_if_carried(carried);
+    print_plain(carry::stamp::number_of(carry(stamp, q, &t[0..size])));
     end_line();
     s
 }

@@ -122,15 +122,6 @@ pub fn print_joining(j: Joining) {
     print_bytes(&bytes);
 }
 
-pub fn print_carried(z: i64) {
-    print_text(b" carried");
-    if z < 0 {
-        print_number(b" -", z.unsigned_abs());
-        return;
-    }
-    print_number(b" ", z as u64);
-}
-
 fn print_filter(f: Filter) {
     match f {
         Filter::All => print_text(b" filter 1"),

@@ -16,6 +16,9 @@ abbrev μ-loop : tie.MeasureT-loop
 new-reader-requires : tie.Need-new-reader-requires Inv-loop μ-loop
 new-reader-requires c κs = search needs
 
+restart-requires : tie.Need-restart-requires Inv-loop μ-loop
+restart-requires c κs = search needs
+
 loop-holds : tie.Need-loop-holds Inv-loop μ-loop
 loop-holds c = search needs
 
@@ -56,6 +59,7 @@ play-script-spec =
     Inv-loop
     μ-loop
     new-reader-requires
+    restart-requires
     loop-holds
     line-end-requires
     sub-play-line

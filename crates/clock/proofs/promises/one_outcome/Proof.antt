@@ -10,6 +10,7 @@ returns c =
       number-of = λ a x y p q. p ∙ sym q;
       att-error-of = λ a x y p q. p ∙ sym q;
       new-reader = λ x y p q. p ∙ sym q;
+      filter-ok = λ f x y p q. p ∙ sym q;
       clock-ok = λ c x y p q. p ∙ sym q;
       seconds = λ c n x y p q. p ∙ sym q;
       switches = λ c a b d x y p q. p ∙ sym q;
