@@ -1,0 +1,50 @@
+//! A reader of the Device Time Service: its clock, its Time Change Log, its two control points,
+//! segmented notifications, and the tablet's joining, reading and carrying.
+//!
+//! This is the build paper in ordinary Rust, written to be read and to be compared with. Every
+//! call works on the byte images of the C boundary and has an answer for every input.
+//!
+//! | Module | Heading of the paper |
+//! |---|---|
+//! | `numbers` | the paper's numbers, in one table |
+//! | `refusal` | Refusal numbers |
+//! | `octets` | little-endian numbers in bytes |
+//! | `record` | Log records (Table 3.10 for our feature bits) |
+//! | `table` | Log table, a lent buffer |
+//! | `clock` | Clock state; Clock events |
+//! | `image` | the 32-byte state; the three characteristics a client reads |
+//! | `update` | Time updates (DTCP) |
+//! | `access` | RACP |
+//! | `notify` | notifications of a running report |
+//! | `joining` | the tablet's joining |
+//! | `carry` | Carrying a stamp |
+//! | `listing` | the listing program's lines |
+//! | `reader` | all calls as one trait, and the reference behind it |
+//! | `world` | the buffers a caller lends, together |
+//! | `vectors` | test vectors kept as data, and their player |
+//! | `random` | adversarial call sequences over two readers |
+
+#![forbid(unsafe_code)]
+
+pub mod access;
+pub mod carry;
+pub mod clock;
+pub mod image;
+pub mod joining;
+pub mod listing;
+pub mod notify;
+pub mod numbers;
+pub mod octets;
+pub mod random;
+pub mod reader;
+pub mod record;
+pub mod refusal;
+pub mod table;
+pub mod update;
+pub mod vectors;
+pub mod world;
+
+// Keeps the README's example true.
+#[cfg(doctest)]
+#[doc = include_str!("../README.md")]
+struct Readme;

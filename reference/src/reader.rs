@@ -1,0 +1,140 @@
+//! All calls over byte slices, as the C boundary has them, and the reference behind them.
+
+use crate::clock::Switches;
+use crate::numbers::{Numbers, PAPER};
+use crate::refusal::{self, Refusal};
+use crate::{access, carry, clock, image, joining, notify, record, update};
+
+/// A reader as a C caller sees it. Answers of at least 0 mean done (bytes written), answers
+/// below 0 are minus the paper's refusal number. A refusal leaves every buffer untouched, but
+/// that a refused join zeroes the joining bytes. Every input has an answer.
+pub trait Reader {
+    /// Refuses 1 (size only), 2 (length of the state).
+    fn start(&self, state: &mut [u8], table: &mut [u8]) -> i32;
+    /// Refuses 2, 7.
+    fn seconds(&self, state: &mut [u8], n: u32) -> i32;
+    /// Any value but 0 is on. Refuses 2.
+    fn switches(&self, state: &mut [u8], dtcp: u8, racp: u8, log: u8) -> i32;
+    /// Refuses 2.
+    fn disconnect(&self, state: &mut [u8]) -> i32;
+    /// Refuses 1, 2, 3.
+    fn fault(&self, state: &mut [u8], table: &mut [u8], out: &mut [u8]) -> i32;
+    /// Refuses 1, 2, 3, 4, 5, 6.
+    fn dtcp_write(&self, state: &mut [u8], table: &mut [u8], write: &[u8], out: &mut [u8]) -> i32;
+    /// Refuses 1, 2, 3, 4, 5, 6.
+    fn racp_write(&self, state: &mut [u8], table: &[u8], write: &[u8], out: &mut [u8]) -> i32;
+    /// 256 more where the bytes close the report. Refuses 1, 2, 3, 8.
+    fn notify(&self, state: &mut [u8], table: &[u8], p: u32, out: &mut [u8]) -> i32;
+    /// 0 more to come, else the length of the whole record. Refuses 10.
+    fn join(&self, joining: &mut [u8], notification: &[u8]) -> i32;
+    /// Refuses 11.
+    fn read(&self, bytes: &[u8], fields: &mut [u32; 11]) -> i32;
+    /// Refuses 1, 12, 13, 14.
+    fn carry(&self, stamp: u32, q: u16, table: &[u8], carried: &mut i64) -> i32;
+    /// Refuses 1, 2, 3.
+    fn device_time(&self, state: &[u8], table: &[u8], out: &mut [u8]) -> i32;
+    /// Refuses 3.
+    fn feature(&self, out: &mut [u8]) -> i32;
+    /// Refuses 3.
+    fn parameters(&self, out: &mut [u8]) -> i32;
+    /// The ATT error of a positive refusal number, 0 where there is none.
+    fn att_error(&self, number: u32) -> i32;
+}
+
+/// The reference: the paper's rules over the paper's numbers.
+pub struct Reference {
+    pub numbers: Numbers,
+}
+
+impl Reference {
+    pub fn new() -> Reference {
+        Reference { numbers: PAPER }
+    }
+}
+
+impl Default for Reference {
+    fn default() -> Reference {
+        Reference::new()
+    }
+}
+
+fn answer(outcome: Result<i32, Refusal>) -> i32 {
+    outcome.unwrap_or_else(Refusal::answer)
+}
+
+impl Reader for Reference {
+    fn start(&self, state: &mut [u8], table: &mut [u8]) -> i32 {
+        answer(clock::start(&self.numbers, state, table))
+    }
+
+    fn seconds(&self, state: &mut [u8], n: u32) -> i32 {
+        answer(clock::seconds(&self.numbers, state, n))
+    }
+
+    fn switches(&self, state: &mut [u8], dtcp: u8, racp: u8, log: u8) -> i32 {
+        let to = Switches {
+            dtcp_indications: dtcp != 0,
+            racp_indications: racp != 0,
+            log_notifications: log != 0,
+        };
+        answer(clock::switches(&self.numbers, state, to))
+    }
+
+    fn disconnect(&self, state: &mut [u8]) -> i32 {
+        answer(clock::disconnect(&self.numbers, state))
+    }
+
+    fn fault(&self, state: &mut [u8], table: &mut [u8], out: &mut [u8]) -> i32 {
+        answer(clock::fault(&self.numbers, state, table, out))
+    }
+
+    fn dtcp_write(&self, state: &mut [u8], table: &mut [u8], write: &[u8], out: &mut [u8]) -> i32 {
+        answer(update::write(&self.numbers, state, table, write, out))
+    }
+
+    fn racp_write(&self, state: &mut [u8], table: &[u8], write: &[u8], out: &mut [u8]) -> i32 {
+        answer(access::write(&self.numbers, state, table, write, out))
+    }
+
+    fn notify(&self, state: &mut [u8], table: &[u8], p: u32, out: &mut [u8]) -> i32 {
+        answer(notify::notify(&self.numbers, state, table, p, out))
+    }
+
+    fn join(&self, joining: &mut [u8], notification: &[u8]) -> i32 {
+        answer(joining::join(&self.numbers, joining, notification))
+    }
+
+    fn read(&self, bytes: &[u8], fields: &mut [u32; 11]) -> i32 {
+        let Some(record) = record::read(&self.numbers, bytes) else {
+            return Refusal::NotARecord.answer();
+        };
+        *fields = record::fields(&record);
+        0
+    }
+
+    fn carry(&self, stamp: u32, q: u16, table: &[u8], carried: &mut i64) -> i32 {
+        match carry::carry(&self.numbers, stamp, q, table) {
+            Ok(result) => {
+                *carried = result;
+                0
+            }
+            Err(refusal) => refusal.answer(),
+        }
+    }
+
+    fn device_time(&self, state: &[u8], table: &[u8], out: &mut [u8]) -> i32 {
+        answer(image::device_time(&self.numbers, state, table, out))
+    }
+
+    fn feature(&self, out: &mut [u8]) -> i32 {
+        answer(image::feature(&self.numbers, out))
+    }
+
+    fn parameters(&self, out: &mut [u8]) -> i32 {
+        answer(image::parameters(&self.numbers, out))
+    }
+
+    fn att_error(&self, number: u32) -> i32 {
+        refusal::att_error(number)
+    }
+}

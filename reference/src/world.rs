@@ -1,0 +1,123 @@
+//! The buffers a caller lends, together, so that two readers can be compared buffer by buffer.
+
+use crate::image::STATE_BYTES;
+use crate::joining::JOINING_BYTES;
+use crate::reader::Reader;
+
+/// What fresh buffers are filled with: a byte no call writes by chance everywhere.
+pub const FILL: u8 = 0xAA;
+
+#[derive(Clone, Debug, PartialEq, Eq)]
+pub struct World {
+    pub state: Vec<u8>,
+    pub table: Vec<u8>,
+    pub joining: Vec<u8>,
+    pub out: Vec<u8>,
+    pub fields: [u32; 11],
+    pub carried: i64,
+    /// The bytes of the last segment sent, as the radio would bring them to the tablet.
+    pub segment: Vec<u8>,
+}
+
+#[derive(Clone, Copy, Debug, PartialEq, Eq)]
+pub enum Buffer {
+    State,
+    Table,
+    Joining,
+    Output,
+}
+
+/// A public call with its numbers and the bytes it brings; the lent buffers are the world's.
+#[derive(Clone, Debug, PartialEq, Eq)]
+pub enum Call {
+    Start,
+    Seconds(u32),
+    Switches(u8, u8, u8),
+    Disconnect,
+    Fault,
+    DtcpWrite(Vec<u8>),
+    RacpWrite(Vec<u8>),
+    Notify(u32),
+    Join(Vec<u8>),
+    /// Joins the last segment sent.
+    JoinSegment,
+    Read(Vec<u8>),
+    /// Reads the record that stands in the joining state.
+    ReadJoined,
+    Carry(u32, u16),
+    DeviceTime,
+    Feature,
+    Parameters,
+    AttError(u32),
+}
+
+impl World {
+    pub fn new() -> World {
+        World {
+            state: vec![FILL; STATE_BYTES],
+            table: Vec::new(),
+            joining: vec![0; JOINING_BYTES],
+            out: vec![FILL; 20],
+            fields: [0; 11],
+            carried: 0,
+            segment: Vec::new(),
+        }
+    }
+
+    pub fn buffer(&mut self, buffer: Buffer) -> &mut Vec<u8> {
+        match buffer {
+            Buffer::State => &mut self.state,
+            Buffer::Table => &mut self.table,
+            Buffer::Joining => &mut self.joining,
+            Buffer::Output => &mut self.out,
+        }
+    }
+
+    /// Overwrites bytes; what would lie past the buffer's end is dropped.
+    pub fn poke(&mut self, buffer: Buffer, at: usize, bytes: &[u8]) {
+        for (place, byte) in self.buffer(buffer).iter_mut().skip(at).zip(bytes) {
+            *place = *byte;
+        }
+    }
+
+    pub fn call(&mut self, reader: &dyn Reader, call: &Call) -> i32 {
+        let World { state, table, joining, out, fields, carried, .. } = self;
+        match call {
+            Call::Start => reader.start(state, table),
+            Call::Seconds(n) => reader.seconds(state, *n),
+            Call::Switches(dtcp, racp, log) => reader.switches(state, *dtcp, *racp, *log),
+            Call::Disconnect => reader.disconnect(state),
+            Call::Fault => reader.fault(state, table, out),
+            Call::DtcpWrite(write) => reader.dtcp_write(state, table, write, out),
+            Call::RacpWrite(write) => reader.racp_write(state, table, write, out),
+            Call::Notify(p) => self.notify(reader, *p),
+            Call::Join(notification) => reader.join(joining, notification),
+            Call::JoinSegment => reader.join(joining, &self.segment),
+            Call::Read(bytes) => reader.read(bytes, fields),
+            Call::ReadJoined => {
+                let length = joining.get(2).map_or(0, |length| usize::from(*length));
+                reader.read(joining.get(3..3 + length).unwrap_or(&[]), fields)
+            }
+            Call::Carry(stamp, q) => reader.carry(*stamp, *q, table, carried),
+            Call::DeviceTime => reader.device_time(state, table, out),
+            Call::Feature => reader.feature(out),
+            Call::Parameters => reader.parameters(out),
+            Call::AttError(number) => reader.att_error(*number),
+        }
+    }
+
+    fn notify(&mut self, reader: &dyn Reader, p: u32) -> i32 {
+        let answer = reader.notify(&mut self.state, &self.table, p, &mut self.out);
+        if (1..256).contains(&answer) {
+            let length = self.out.len().min(answer as usize);
+            self.segment = self.out[..length].to_vec();
+        }
+        answer
+    }
+}
+
+impl Default for World {
+    fn default() -> World {
+        World::new()
+    }
+}

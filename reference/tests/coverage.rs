@@ -1,0 +1,185 @@
+//! The made sequences reach what they are made for.
+
+use reference::octets::u16_at;
+use reference::random::{watch, Step};
+use reference::reader::Reference;
+use reference::world::{Call, World};
+use std::collections::{BTreeMap, BTreeSet};
+
+const CALLS: usize = 200_000;
+
+#[derive(Default)]
+struct Seen {
+    /// How often each refusal number was answered, by call; 0 for done.
+    numbers: BTreeMap<&'static str, BTreeMap<i32, usize>>,
+    /// Write lengths and first bytes, by point.
+    lengths: BTreeMap<&'static str, BTreeSet<usize>>,
+    opcodes: BTreeMap<&'static str, BTreeSet<u8>>,
+    /// Operators of RACP writes that begin a report or ask for a number.
+    operators: BTreeSet<u8>,
+    dtcp_codes: BTreeSet<u8>,
+    grounds: BTreeSet<u16>,
+    racp_codes: BTreeSet<u8>,
+    /// Header bits of segments, and their counters.
+    segment_bits: BTreeSet<u8>,
+    counters: BTreeSet<u8>,
+    closings: BTreeSet<u8>,
+    /// N of tables that a record was logged in.
+    slots: BTreeSet<u16>,
+    events: BTreeSet<&'static str>,
+}
+
+fn name(call: &Call) -> &'static str {
+    match call {
+        Call::Start => "start",
+        Call::Seconds(_) => "seconds",
+        Call::Switches(..) => "switches",
+        Call::Disconnect => "disconnect",
+        Call::Fault => "fault",
+        Call::DtcpWrite(_) => "dtcp_write",
+        Call::RacpWrite(_) => "racp_write",
+        Call::Notify(_) => "notify",
+        Call::Join(_) | Call::JoinSegment => "join",
+        Call::Read(_) | Call::ReadJoined => "read",
+        Call::Carry(..) => "carry",
+        Call::DeviceTime => "device_time",
+        Call::Feature => "feature",
+        Call::Parameters => "parameters",
+        Call::AttError(_) => "att_error",
+    }
+}
+
+impl Seen {
+    fn call(&mut self, call: &Call, answer: i32, before: &World, after: &World) {
+        *self.numbers.entry(name(call)).or_default().entry(-answer.min(0)).or_default() += 1;
+        let running = before.state.get(17).is_some_and(|opcode| *opcode != 0);
+        let out = &after.out;
+        match call {
+            Call::DtcpWrite(write) => self.write("dtcp_write", write),
+            Call::RacpWrite(write) => self.write("racp_write", write),
+            _ => {}
+        }
+        if answer < 0 {
+            return;
+        }
+        match call {
+            Call::DtcpWrite(_) => {
+                self.dtcp_codes.insert(out[2]);
+                if out[2] == 5 {
+                    self.grounds.insert(u16_at(out, 3));
+                } else if out[2] == 1 {
+                    self.logged(after);
+                }
+            }
+            Call::RacpWrite(_) if answer == 0 => drop(self.events.insert("report begun")),
+            Call::RacpWrite(write) => {
+                self.racp_codes.insert(if out[0] == 6 { out[3] } else { 0 });
+                if running && write[0] == 3 && out[3] == 1 {
+                    self.events.insert("report aborted");
+                }
+            }
+            Call::Fault => {
+                self.logged(after);
+                if answer == 4 {
+                    self.events.insert("report ended by a fault");
+                }
+            }
+            Call::Disconnect if running => drop(self.events.insert("report ended by a disconnect")),
+            Call::Notify(p) if answer < 256 => {
+                self.segment_bits.insert(out[0] & 3);
+                self.counters.insert(out[0] >> 2);
+                let first_of_record = before.state[27];
+                if first_of_record > 0 && *p != u32::from(first_of_record) + 1 {
+                    self.events.insert("P changed inside a record");
+                }
+            }
+            Call::Notify(_) => drop(self.closings.insert(out[0])),
+            Call::ReadJoined if answer == 0 => drop(self.events.insert("joined record read")),
+            Call::Carry(_, q) => {
+                let next = u16_at(&before.table, 8);
+                if next < *q {
+                    self.events.insert("carried over the roll");
+                }
+                if after.carried < 0 {
+                    self.events.insert("carried below 0");
+                }
+            }
+            _ => {}
+        }
+    }
+
+    fn write(&mut self, point: &'static str, write: &[u8]) {
+        self.lengths.entry(point).or_default().insert(write.len());
+        self.opcodes.entry(point).or_default().extend(write.first());
+        if point == "racp_write" && matches!(write, [1 | 4 | 7, _, ..]) {
+            self.operators.insert(write[1]);
+        }
+    }
+
+    fn logged(&mut self, after: &World) {
+        self.slots.insert(u16_at(&after.table, 0));
+        if u16_at(&after.table, 8) == 0 {
+            self.events.insert("number 65,535 logged");
+        }
+    }
+}
+
+#[test]
+fn sequences_reach_everything() {
+    let mut seen = Seen::default();
+    watch(&Reference::new(), 1, CALLS, &mut |step, answer, before, after| {
+        if let (Step::Call(call), Some(answer)) = (step, answer) {
+            seen.call(call, answer, before, after);
+        }
+    });
+
+    let rows: [(&str, &[i32]); 15] = [
+        ("start", &[0, 1, 2]),
+        ("seconds", &[0, 2, 7]),
+        ("switches", &[0, 2]),
+        ("disconnect", &[0, 2]),
+        ("fault", &[0, 1, 2, 3]),
+        ("dtcp_write", &[0, 1, 2, 3, 4, 5, 6]),
+        ("racp_write", &[0, 1, 2, 3, 4, 5, 6]),
+        ("notify", &[0, 1, 2, 3, 8]),
+        ("join", &[0, 10]),
+        ("read", &[0, 11]),
+        ("carry", &[0, 1, 12, 13]),
+        ("device_time", &[0, 1, 2, 3]),
+        ("feature", &[0, 3]),
+        ("parameters", &[0, 3]),
+        ("att_error", &[0]),
+    ];
+    for (call, numbers) in rows {
+        println!("{call}: {:?}", seen.numbers[call]);
+        assert!(seen.numbers[call].keys().eq(numbers), "{call}");
+    }
+    for point in ["dtcp_write", "racp_write"] {
+        assert_eq!(seen.lengths[point], BTreeSet::from_iter(0..=21), "{point}");
+        assert_eq!(seen.opcodes[point].len(), 256, "{point}");
+    }
+    assert_eq!(seen.operators.len(), 256);
+    assert_eq!(seen.dtcp_codes, BTreeSet::from([1, 2, 3, 5]));
+    // All but none of the four grounds, in every combination.
+    let grounds = (1..16u16).map(|k| k & 1 | (k & 2) << 1 | (k & 4) << 3 | (k & 8) << 3);
+    assert_eq!(seen.grounds, grounds.collect());
+    assert_eq!(seen.racp_codes, BTreeSet::from([0, 1, 2, 3, 4, 5, 6, 7, 9]));
+    assert_eq!(seen.segment_bits, BTreeSet::from([0, 1, 2, 3]));
+    assert_eq!(seen.counters, BTreeSet::from_iter(0..64));
+    assert_eq!(seen.closings, BTreeSet::from([6, 8]));
+    assert_eq!(seen.slots, BTreeSet::from([1, 2, 3, 5, 40, 1_023]));
+    assert_eq!(
+        seen.events,
+        BTreeSet::from([
+            "report begun",
+            "report aborted",
+            "report ended by a fault",
+            "report ended by a disconnect",
+            "P changed inside a record",
+            "joined record read",
+            "carried over the roll",
+            "carried below 0",
+            "number 65,535 logged",
+        ])
+    );
+}

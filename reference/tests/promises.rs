@@ -1,0 +1,180 @@
+//! Two promises over many calls, checked without looking into the reference: what a finished
+//! report hands over, and what a carried stamp tells.
+
+use reference::octets::{u16_at, u32_at};
+use reference::random::{planned_table, Plan, Random};
+use reference::reader::{Reader, Reference};
+
+const SLOTS: [usize; 5] = [1, 2, 3, 5, 40];
+
+/// The held records, oldest first.
+fn held(table: &[u8]) -> Vec<Vec<u8>> {
+    let slots = usize::from(u16_at(table, 0));
+    let oldest = (u32_at(table, 4) as usize - 16) / 64;
+    let slot = |age: usize| &table[16 + 64 * ((oldest + age) % slots)..][..64];
+    let record = |age: usize| slot(age)[1..1 + usize::from(slot(age)[0])].to_vec();
+    (0..usize::from(u16_at(table, 2))).map(record).collect()
+}
+
+/// A filter as RACP bytes, and the held records it means.
+fn some_filter(random: &mut Random, records: &[Vec<u8>]) -> (Vec<u8>, Vec<Vec<u8>>) {
+    let numbers: Vec<u16> = records.iter().map(|record| u16_at(record, 0)).collect();
+    let mut edge = || match numbers.is_empty() {
+        true => random.number() as u16,
+        false => random.pick(&numbers).wrapping_add(random.pick(&[0, 0, 1, 65_535])),
+    };
+    let (one, two) = (edge(), edge());
+    let (least, most) = (one.min(two), one.max(two));
+    let operator = 1 + random.below(6) as u8;
+    let mut bytes = vec![operator];
+    let (from, to) = match operator {
+        2 => (0, most),
+        3 => (least, 65_535),
+        4 => (least, most),
+        _ => (0, 65_535),
+    };
+    if matches!(operator, 2..=4) {
+        bytes.push(1);
+        bytes.extend(if operator == 2 { most.to_le_bytes() } else { least.to_le_bytes() });
+    }
+    if operator == 4 {
+        bytes.extend(most.to_le_bytes());
+    }
+    let mut matching: Vec<_> =
+        records.iter().filter(|r| (from..=to).contains(&u16_at(r, 0))).cloned().collect();
+    match operator {
+        5 => matching.truncate(1),
+        6 => matching = matching.pop().into_iter().collect(),
+        _ => {}
+    }
+    (bytes, matching)
+}
+
+fn finished_report(reader: &dyn Reader, seed: u64) {
+    let mut random = Random::new(seed);
+    let slots = random.pick(&SLOTS);
+    let plan = Plan {
+        slots,
+        held: random.below(slots + 1),
+        oldest: random.below(slots),
+        next: random.pick(&[0, 2, 20, 65_535, 40_000]),
+        seed,
+    };
+    let (mut state, table) = ([0; 32], planned_table(&plan));
+    let (mut joining, mut out) = ([0; 48], [0; 244]);
+    reader.start(&mut state, &mut table.clone());
+    reader.switches(&mut state, 1, 1, 1);
+    let (filter, matching) = some_filter(&mut random, &held(&table));
+    let opcode = random.pick(&[1, 7]);
+    let write = [&[opcode][..], &filter].concat();
+    let answer = reader.racp_write(&mut state, &table, &write, &mut out);
+    if matching.is_empty() {
+        assert_eq!((answer, &out[..4]), (4, &[6, 0, opcode, 6][..]), "seed {seed}");
+        return;
+    }
+    assert_eq!(answer, 0, "seed {seed}");
+
+    let fixed = random.one_in(2).then(|| 20 + random.below(8) as u32);
+    let (mut handed_over, mut segments) = (Vec::new(), 0);
+    let closing = loop {
+        let p = fixed.unwrap_or(20 + random.below(225) as u32);
+        let answer = reader.notify(&mut state, &table, p, &mut out);
+        assert!(answer > 0, "seed {seed}: notify answers {answer}");
+        if answer > 256 {
+            break out[..answer as usize - 256].to_vec();
+        }
+        segments += 1;
+        let joined = reader.join(&mut joining, &out[..answer as usize]);
+        assert!(joined >= 0, "seed {seed}: join answers {joined}");
+        if joined > 0 {
+            handed_over.push(joining[3..3 + joined as usize].to_vec());
+        }
+    };
+    assert_eq!(handed_over, matching, "seed {seed}");
+    let count = (matching.len() as u16).to_le_bytes();
+    let expected = if opcode == 1 { [6, 0, 1, 1] } else { [8, 0, count[0], count[1]] };
+    assert_eq!(closing, expected, "seed {seed}");
+    if let Some(p) = fixed {
+        let of_record = |record: &Vec<u8>| record.len().div_ceil(p as usize - 1);
+        assert_eq!(segments, matching.iter().map(of_record).sum::<usize>(), "seed {seed}");
+    }
+}
+
+/// What happened to the clock since the stamp.
+#[derive(Default)]
+struct Since {
+    ran: i64,
+    logged: usize,
+    faults: usize,
+}
+
+fn some_event(
+    reader: &dyn Reader,
+    random: &mut Random,
+    state: &mut [u8],
+    table: &mut [u8],
+    since: &mut Since,
+) {
+    let mut out = [0; 20];
+    match random.below(8) {
+        0..=2 => {
+            let n = random.pick(&[0, 1, 3_600, 1_000_000_000, u32::MAX]);
+            if reader.seconds(state, n) == 0 {
+                since.ran += i64::from(n);
+            }
+        }
+        3 if random.one_in(3) => {
+            assert_eq!(reader.fault(state, table, &mut out), 0);
+            since.logged += 1;
+            since.faults += 1;
+        }
+        _ => {
+            let base = u32_at(state, 0).wrapping_add(random.below(200_001) as u32) - 100_000;
+            let mut write = vec![random.pick(&[2, 3]), random.pick(&[0x43, 0x41, 0x40]), 0];
+            write.extend(base.to_le_bytes());
+            write.extend([4, 0, 2, 1]);
+            assert!(reader.dtcp_write(state, table, &write, &mut out) > 0);
+            since.logged += usize::from(out[2] == 1);
+        }
+    }
+}
+
+fn carried_stamp(reader: &dyn Reader, seed: u64) {
+    let mut random = Random::new(seed);
+    let slots = random.pick(&SLOTS);
+    let (mut state, mut table) = ([0; 32], vec![0; 16 + 64 * slots]);
+    reader.start(&mut state, &mut table);
+    reader.switches(&mut state, 1, 1, 1);
+    let before = random.below(6);
+    for _ in 0..before {
+        some_event(reader, &mut random, &mut state, &mut table, &mut Since::default());
+    }
+    let mut device_time = [0; 20];
+    assert_eq!(reader.device_time(&state, &table, &mut device_time), 10);
+    let (stamp, q) = (u32_at(&device_time, 0), u16_at(&device_time, 8));
+    let mut since = Since::default();
+    let after = random.below(2 * slots + 4);
+    for _ in 0..after {
+        some_event(reader, &mut random, &mut state, &mut table, &mut since);
+    }
+    let mut carried = 0;
+    let answer = reader.carry(stamp, q, &table, &mut carried);
+    if since.logged > held(&table).len() {
+        assert_eq!(answer, -12, "seed {seed}");
+    } else if since.faults > 0 {
+        assert_eq!(answer, -13, "seed {seed}");
+    } else {
+        assert_eq!(answer, 0, "seed {seed}");
+        assert_eq!(i64::from(u32_at(&state, 0)) - carried, since.ran, "seed {seed}");
+    }
+}
+
+#[test]
+fn a_finished_report_hands_over_exactly_the_matching_records() {
+    (1..=2_000).for_each(|seed| finished_report(&Reference::new(), seed));
+}
+
+#[test]
+fn a_carried_stamp_tells_the_seconds_that_ran() {
+    (1..=2_000).for_each(|seed| carried_stamp(&Reference::new(), seed));
+}

@@ -1,0 +1,32 @@
+//! The vectors, played on the reference.
+
+use reference::reader::Reference;
+use reference::vectors::play_all;
+use std::collections::BTreeSet;
+
+#[test]
+fn all_vectors_pass() {
+    let played = play_all(&Reference::new());
+    for failure in &played.failures {
+        println!("{failure}");
+    }
+    println!("{} vectors run, {} failed", played.run.len(), played.failures.len());
+    assert!(played.failures.is_empty());
+}
+
+/// None was lost: 248 by clause, 28 for the paper's numbered cases, 39 for the byte images.
+#[test]
+fn all_vectors_are_there() {
+    let run = play_all(&Reference::new()).run;
+    let ids: BTreeSet<_> = run.iter().collect();
+    assert_eq!(ids.len(), run.len(), "an id stands twice");
+    let of = |families: &[&str]| {
+        let family = |id: &str| id.trim_end_matches(|c: char| !c.is_ascii_uppercase()).to_string();
+        run.iter().filter(|id| families.contains(&family(id).as_str())).count()
+    };
+    let worked = ["ST", "SE", "TB", "DT", "LG", "FA", "RA", "NO", "JO", "RE", "CA", "LI", "SW"];
+    assert_eq!(of(&worked), 248);
+    assert_eq!(of(&["CASE"]), 28);
+    assert_eq!(of(&["IM"]), 39);
+    assert_eq!(run.len(), 315);
+}

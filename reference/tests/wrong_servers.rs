@@ -1,0 +1,186 @@
+//! The servers and tablets the paper shuts out: both the vectors and the comparison notice them.
+
+use reference::octets::{put_u16, put_u32, u16_at, u32_at};
+use reference::random::compare;
+use reference::reader::{Reader, Reference};
+use reference::vectors::play_all;
+
+const CALLS: usize = 20_000;
+
+#[derive(Clone, Copy, Debug, PartialEq, Eq)]
+enum Wrong {
+    RejectsEveryProposal,
+    SaysSuccessToAll,
+    NeverLogs,
+    LogsACorrectedTime,
+    RejectsWithTheFirstGroundOnly,
+    SendsEmptySegmentsAfterTheFirst,
+    RepeatsSegments,
+    NumbersAllHeld,
+    GoesOnAfterAFault,
+    CarriesNothing,
+    AlwaysRefusesToCarry,
+    SubtractsUnsigned,
+}
+
+const ALL: [Wrong; 12] = [
+    Wrong::RejectsEveryProposal,
+    Wrong::SaysSuccessToAll,
+    Wrong::NeverLogs,
+    Wrong::LogsACorrectedTime,
+    Wrong::RejectsWithTheFirstGroundOnly,
+    Wrong::SendsEmptySegmentsAfterTheFirst,
+    Wrong::RepeatsSegments,
+    Wrong::NumbersAllHeld,
+    Wrong::GoesOnAfterAFault,
+    Wrong::CarriesNothing,
+    Wrong::AlwaysRefusesToCarry,
+    Wrong::SubtractsUnsigned,
+];
+
+/// The reference, with one call gone wrong.
+struct WrongReader {
+    right: Reference,
+    wrong: Wrong,
+}
+
+fn wrong_reader(wrong: Wrong) -> WrongReader {
+    WrongReader { right: Reference::new(), wrong }
+}
+
+/// Where the newest record stands in a table that has just been logged in.
+fn newest_record(table: &[u8]) -> usize {
+    let (slots, held) = (usize::from(u16_at(table, 0)), usize::from(u16_at(table, 2)));
+    let oldest = (u32_at(table, 4) as usize - 16) / 64;
+    17 + 64 * ((oldest + held + slots - 1) % slots)
+}
+
+impl Reader for WrongReader {
+    fn dtcp_write(&self, state: &mut [u8], table: &mut [u8], write: &[u8], out: &mut [u8]) -> i32 {
+        let (old_state, old_table) = (state.to_vec(), table.to_vec());
+        let answer = self.right.dtcp_write(state, table, write, out);
+        let taken = answer == 3 && out[2] == 1;
+        let rejected = answer == 5;
+        match self.wrong {
+            Wrong::RejectsEveryProposal if taken => {
+                state.copy_from_slice(&old_state);
+                table.copy_from_slice(&old_table);
+                out[2..5].copy_from_slice(&[5, 4, 0]);
+                return 5;
+            }
+            Wrong::SaysSuccessToAll if rejected => {
+                out[2] = 1;
+                return 3;
+            }
+            Wrong::NeverLogs if taken => table.copy_from_slice(&old_table),
+            Wrong::LogsACorrectedTime if taken => {
+                let at = newest_record(table) + 16;
+                let later = u32_at(table, at) + 1;
+                put_u32(table, at, later);
+            }
+            Wrong::RejectsWithTheFirstGroundOnly if rejected => {
+                let grounds = u16_at(out, 3);
+                put_u16(out, 3, 1 << grounds.trailing_zeros());
+            }
+            _ => {}
+        }
+        answer
+    }
+
+    fn notify(&self, state: &mut [u8], table: &[u8], p: u32, out: &mut [u8]) -> i32 {
+        let (mut old_state, old_out) = (state.to_vec(), out.to_vec());
+        let answer = self.right.notify(state, table, p, out);
+        let inside = (1..256).contains(&answer) && out[0] & 1 == 0;
+        match self.wrong {
+            Wrong::SendsEmptySegmentsAfterTheFirst if inside => {
+                out[1..].copy_from_slice(&old_out[1..]);
+                1
+            }
+            // The record's first bytes once more, under the right header.
+            Wrong::RepeatsSegments if inside => {
+                let header = out[0];
+                old_state[27] = 0;
+                let length = self.right.notify(&mut old_state, table, p, out);
+                out[0] = header;
+                length
+            }
+            _ => answer,
+        }
+    }
+
+    fn racp_write(&self, state: &mut [u8], table: &[u8], write: &[u8], out: &mut [u8]) -> i32 {
+        let answer = self.right.racp_write(state, table, write, out);
+        if self.wrong == Wrong::NumbersAllHeld && answer == 4 && out[0] == 5 {
+            put_u16(out, 2, u16_at(table, 2));
+        }
+        answer
+    }
+
+    fn fault(&self, state: &mut [u8], table: &mut [u8], out: &mut [u8]) -> i32 {
+        let old_state = state.to_vec();
+        let answer = self.right.fault(state, table, out);
+        if self.wrong == Wrong::GoesOnAfterAFault && answer >= 0 {
+            state[17..28].copy_from_slice(&old_state[17..28]);
+        }
+        answer
+    }
+
+    fn carry(&self, stamp: u32, q: u16, table: &[u8], carried: &mut i64) -> i32 {
+        if self.wrong == Wrong::AlwaysRefusesToCarry {
+            return -12;
+        }
+        let answer = self.right.carry(stamp, q, table, carried);
+        match self.wrong {
+            Wrong::CarriesNothing if answer == 0 => *carried = stamp.into(),
+            Wrong::SubtractsUnsigned if answer == 0 => *carried = (*carried as u32).into(),
+            _ => {}
+        }
+        answer
+    }
+
+    fn start(&self, state: &mut [u8], table: &mut [u8]) -> i32 {
+        self.right.start(state, table)
+    }
+    fn seconds(&self, state: &mut [u8], n: u32) -> i32 {
+        self.right.seconds(state, n)
+    }
+    fn switches(&self, state: &mut [u8], dtcp: u8, racp: u8, log: u8) -> i32 {
+        self.right.switches(state, dtcp, racp, log)
+    }
+    fn disconnect(&self, state: &mut [u8]) -> i32 {
+        self.right.disconnect(state)
+    }
+    fn join(&self, joining: &mut [u8], notification: &[u8]) -> i32 {
+        self.right.join(joining, notification)
+    }
+    fn read(&self, bytes: &[u8], fields: &mut [u32; 11]) -> i32 {
+        self.right.read(bytes, fields)
+    }
+    fn device_time(&self, state: &[u8], table: &[u8], out: &mut [u8]) -> i32 {
+        self.right.device_time(state, table, out)
+    }
+    fn feature(&self, out: &mut [u8]) -> i32 {
+        self.right.feature(out)
+    }
+    fn parameters(&self, out: &mut [u8]) -> i32 {
+        self.right.parameters(out)
+    }
+    fn att_error(&self, number: u32) -> i32 {
+        self.right.att_error(number)
+    }
+}
+
+#[test]
+fn the_comparison_notices_every_wrong_server() {
+    for wrong in ALL {
+        let outcome = compare(&Reference::new(), &wrong_reader(wrong), 3, CALLS);
+        assert!(outcome.is_err(), "not noticed: {wrong:?}");
+    }
+}
+
+#[test]
+fn the_vectors_notice_every_wrong_server() {
+    for wrong in ALL {
+        assert!(!play_all(&wrong_reader(wrong)).failures.is_empty(), "not noticed: {wrong:?}");
+    }
+}
