@@ -19,13 +19,13 @@ use Rattle.octets.proofs.Tests.{both-reads}
 use Rattle.rules.specs.Rules.{baseB, zoneB, dstB, sourceB, statusB}
 use Rattle.rules.proofs.RangeLaws.{base-reads}
 use Rattle.record.specs.Fields.{typeOf}
-use Rattle.record.specs.WellFormed.{updateB, recordB}
+use Rattle.coding.specs.WellFormed.{updateB, recordB}
 use Rattle.record.specs.declared.kinds.Update.{Update}
 use Rattle.record.specs.declared.kinds.Record.{Record}
 use Rattle.record.specs.declared.kinds.Record.the-variants.{TimeUpdate, TimeFault}
-use Rattle.log.specs.Table.{count, next, held, soundB}
+use Rattle.table.specs.Table.{count, next, held, soundB}
 use Rattle.log.specs.Writing.{newest}
-use Rattle.log.proofs.HeadLaws.{sound-head}
+use Rattle.table.proofs.HeadLaws.{sound-head}
 use Rattle.log.proofs.HistoryLaws.{length-held}
 use Rattle.held.proofs.LookLaws.{none-left}
 use Rattle.held.proofs.KindLaws.{held-rules}

@@ -8,7 +8,7 @@ use lib.IntN.{ℤ, pos, negsuc, _+ℤ_, _-ℤ_}
 use Rattle.octets.specs.Choice.{pick}
 use Rattle.record.specs.declared.kinds.Record.{Record}
 use Rattle.record.specs.declared.kinds.Record.the-variants.{TimeUpdate, TimeFault}
-use Rattle.log.specs.Table.{next, held, soundB}
+use Rattle.table.specs.Table.{next, held, soundB}
 use Rattle.log.specs.Writing.{newest}
 use Rattle.carry.specs.declared.stamp.Carried.{Carried}
 use Rattle.carry.specs.declared.stamp.Carried.the-variants.{To, TableNotSound, NotHeld, FaultAmong, PastRange}

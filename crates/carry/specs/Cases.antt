@@ -9,12 +9,12 @@ use Rattle.octets.specs.Numbers.{bytes2}
 use Rattle.octets.specs.Parts.{zerosB, over}
 use Rattle.rules.specs.Rules.{baseB, zoneB, dstB, sourceB, statusB, bitsB}
 use Rattle.record.specs.Fields.{sequenceOf}
-use Rattle.record.specs.Layout.{updateBytes, faultBytes, bytesOf, updateAt, faultAt, recordOf, sizedB, shapeB}
-use Rattle.record.specs.WellFormed.{updateB, faultB, recordB, wellFormedB}
+use Rattle.coding.specs.Layout.{updateBytes, faultBytes, bytesOf, updateAt, faultAt, recordOf, sizedB, shapeB}
+use Rattle.coding.specs.WellFormed.{updateB, faultB, recordB, wellFormedB}
 use Rattle.record.specs.declared.kinds.Record.{Record}
 use Rattle.record.specs.declared.kinds.Record.the-variants.{TimeUpdate, TimeFault}
-use Rattle.log.specs.Table.{sizeB, startB, emptyB, fieldsB, headB, slot, bytesIn, recordIn, slots, ring, held, slotB, rowB, soundB}
-use Rattle.log.specs.Writing.{fresh, steps, placeOf, slotOf, headerAfter, appendOf, logAll}
+use Rattle.table.specs.Table.{sizeB, startB, emptyB, fieldsB, headB, slot, bytesIn, recordIn, slots, ring, held, slotB, rowB, soundB, steps}
+use Rattle.log.specs.Writing.{fresh, placeOf, slotOf, headerAfter, appendOf, logAll}
 use Rattle.carry.specs.Carry.{laterOf, carriedOver, carriedFrom, carryOf}
 use Rattle.carry.specs.declared.stamp.Carried.{Carried}
 use Rattle.carry.specs.declared.stamp.Carried.the-variants.{To, TableNotSound, NotHeld, FaultAmong}

@@ -8,7 +8,7 @@ use lib.IntN.{pos}
 use Rattle.octets.specs.Choice.{pick}
 use Rattle.record.specs.declared.kinds.Record.{Record}
 use Rattle.record.specs.declared.kinds.Record.the-variants.{TimeUpdate, TimeFault}
-use Rattle.log.specs.Table.{count, next, held, soundB}
+use Rattle.table.specs.Table.{count, next, held, soundB}
 use Rattle.log.specs.Writing.{newest}
 use Rattle.carry.specs.Carry.{laterOf, carryOf, numberOf}
 use Rattle.carry.specs.declared.stamp.Carried.{Carried}

@@ -2,9 +2,9 @@
 use held::look::held_count;
 use held::look::next_number;
 use held::look::record_at;
-use log::sound::sound;
 use record::fields::type_of;
 use record::kinds::Record;
+use soundness::sound::sound;
 ghost use mathlib.Core.Path.{_≡_};
 ghost use mathlib.Core.Bool.{true};
 ghost use Prim.Native.Nat.{_≤_};
@@ -12,7 +12,7 @@ ghost use lib.ListN.{drop};
 ghost use lib.IntN.{pos, _+ℤ_, _-ℤ_};
 ghost use mir.Syntax.{w64};
 ghost use mir.Val.{SFits};
-ghost use Rattle.log.specs.Table.{count, held, soundB};
+ghost use Rattle.table.specs.Table.{count, held, soundB};
 ghost use Rattle.carry.specs.Carry.{laterOf, movedBy, carriedOver, carryOf, numberOf};
 
 // Event_Log_Type of a Time_Fault (document 002, Table 3.12)

@@ -17,19 +17,19 @@ use Rattle.filter.specs.declared.request.Filter.the-variants.{All, AtLeast}
 use Rattle.record.specs.Fields.{sequenceOf}
 use Rattle.record.specs.declared.kinds.Record.{Record}
 use Rattle.held.specs.Matching.{matchingFrom, matching, firstFrom, nextMatch}
-use Rattle.log.specs.Table.{count, held}
+use Rattle.table.specs.Table.{count, held}
 use Rattle.held.specs.declared.matching.Found.{Found}
 use Rattle.held.specs.declared.matching.Found.the-variants as found
 use Rattle.clock.specs.declared.state.Clock.{Clock}
-use Rattle.service.specs.Outcome.{doneB, answered}
-use Rattle.service.specs.Rows.{firstFailed}
+use Rattle.refusals.specs.Outcome.{doneB, answered}
+use Rattle.refusals.specs.Rows.{firstFailed}
 use Rattle.access.specs.Codes.{codeOf}
 use Rattle.access.specs.Request.{opcodeIn, requestOf}
 use Rattle.access.specs.Response.{codeBytes, countBytes}
 use Rattle.access.specs.declared.request.Request.{Request}
 use Rattle.access.specs.declared.request.Request.the-variants.{Report, Number, Abort, Refused}
-use Rattle.transfer.specs.Access.{accessRows, accessed, begunOf, accessedOf, responseIn, accessOf}
-use Rattle.transfer.specs.Report.{leftAt, leftFrom}
+use Rattle.asking.specs.Access.{accessRows, accessed, begunOf, accessedOf, responseIn, accessOf}
+use Rattle.asking.specs.Report.{leftAt, leftFrom}
 use Rattle.cases.specs.Reader.{output, response, started, access, first}
 use Rattle.cases.proofs.ShutLaws.{differ, done-is}
 use Rattle.cases.specs.Wrong.{Counts, accessedBy, accessingBy, countMatching, firstMatch, numbersNext, numbersNone, acceptsAny, AccessShutOut}

@@ -12,8 +12,8 @@ use Rattle.clock.specs.declared.state.Clock.{Clock}
 use Rattle.clock.specs.declared.state.Report.{Report}
 use Rattle.clock.specs.declared.state.Running.the-variants.{Idle, Reporting}
 use Rattle.service.specs.Fault.{faultedOf, endingOf, faultOf}
-use Rattle.service.specs.Outcome.{doneB, answered}
-use Rattle.service.specs.Rows.{firstFailed, idleB, tableRows}
+use Rattle.refusals.specs.Outcome.{doneB, answered}
+use Rattle.refusals.specs.Rows.{firstFailed, idleB, tableRows}
 use Rattle.cases.specs.Reader.{output, response, access, reporting}
 use Rattle.cases.proofs.ShutLaws.{differ, done-is}
 use Rattle.cases.specs.Wrong.{EndsReport, faultingBy, runsOn, endsSilent, FaultsShutOut}

@@ -15,7 +15,7 @@ use Rattle.clock.specs.Answers.{numberOf}
 use Rattle.clock.specs.declared.answers.Answer.{Answer}
 use Rattle.clock.specs.declared.answers.Answer.the-variants.{Done}
 use Rattle.clock.specs.declared.state.Clock.{Clock}
-use Rattle.service.specs.Outcome.{doneB, refused, answered}
+use Rattle.refusals.specs.Outcome.{doneB, refused, answered}
 
 -- a list of bytes, computed
 unfoldable pub bytesB : List ℕ → Bool

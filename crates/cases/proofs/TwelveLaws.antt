@@ -7,7 +7,7 @@ use native.Mathlib.Omega.{arith}
 use borrow.Author.Tests.{le-leb, lt-ltb}
 use lib.ListN.{length, drop-of-length-le}
 use Rattle.record.specs.declared.kinds.Record.{Record}
-use Rattle.log.specs.Table.{next, held}
+use Rattle.table.specs.Table.{next, held}
 use Rattle.log.specs.Writing.{newest}
 use Rattle.carry.specs.Carry.{laterOf, carriedOver, carriedFrom, carryOf}
 use Rattle.cases.specs.Reader.{started, access, first, second}

@@ -5,14 +5,14 @@ use mathlib.Core.Bool.{true}
 use mathlib.Core.List.{List}
 use Prim.Native.Nat.{ℕ}
 use native.Mathlib.Omega.{arith}
-use Rattle.log.specs.Table.{next}
+use Rattle.table.specs.Table.{next}
 use Rattle.clock.specs.declared.state.Clock.{Clock}
 use Rattle.update.specs.Accept.{updateRecord}
-use Rattle.update.specs.Proposal.{proposalAt}
+use Rattle.judging.specs.Proposal.{proposalAt}
 use Rattle.update.specs.Decide.{decideOf, operandOf}
-use Rattle.update.specs.Grounds.{groundsOf}
-use Rattle.service.specs.Outcome.{doneB}
-use Rattle.service.specs.Rows.{firstFailed}
+use Rattle.judging.specs.Grounds.{groundsOf}
+use Rattle.refusals.specs.Outcome.{doneB}
+use Rattle.refusals.specs.Rows.{firstFailed}
 use Rattle.service.specs.Promises.{successB, LoggedOne}
 use Rattle.service.specs.Update.{updateRows, settledOf, effectOf, updateOf}
 use Rattle.service.proofs.PromiseLaws.{logged}

@@ -8,10 +8,10 @@ use Rattle.octets.specs.Parts.{zerosB, over}
 use Rattle.rules.specs.Rules.{baseB, zoneB, dstB, sourceB, statusB, bitsB}
 use Rattle.filter.specs.Filter.{matchesB}
 use Rattle.record.specs.Fields.{sequenceOf}
-use Rattle.record.specs.Layout.{updateBytes, faultBytes, bytesOf, updateAt, faultAt, recordOf, sizedB, shapeB}
-use Rattle.record.specs.WellFormed.{updateB, faultB, recordB, wellFormedB, readOf}
-use Rattle.log.specs.Table.{sizeB, startB, emptyB, fieldsB, headB, slot, bytesIn, recordIn, slots, ring, held, slotB, rowB, soundB}
-use Rattle.log.specs.Writing.{fresh, startOf, steps, placeOf, slotOf, headerAfter, appendOf}
+use Rattle.coding.specs.Layout.{updateBytes, faultBytes, bytesOf, updateAt, faultAt, recordOf, sizedB, shapeB}
+use Rattle.coding.specs.WellFormed.{updateB, faultB, recordB, wellFormedB, readOf}
+use Rattle.table.specs.Table.{sizeB, startB, emptyB, fieldsB, headB, slot, bytesIn, recordIn, slots, ring, held, slotB, rowB, soundB, steps}
+use Rattle.log.specs.Writing.{fresh, startOf, placeOf, slotOf, headerAfter, appendOf}
 use Rattle.held.specs.Matching.{firstFrom, nextMatch, matchingFrom, matching}
 use Rattle.clock.specs.Answers.{numberOf}
 use Rattle.clock.specs.Events.{unlessBroken, withBase, withSwitches, secondsOf, switchesOf}
@@ -21,23 +21,23 @@ use Rattle.clock.specs.State.{newReader}
 use Rattle.clock.specs.declared.events.Event.{Event}
 use Rattle.update.specs.Accept.{statusAfter, alignedAfter, accuracyOf, acceptedOf, loggedB, updateRecord}
 use Rattle.update.specs.Decide.{proposeOpcode, forceOpcode, judged, operandOf, decideOf}
-use Rattle.update.specs.Grades.{clockGrade, localB, gradeOf}
-use Rattle.update.specs.Grounds.{epochB, rangeB, lowerB, secondsApart, unrealisticB, flagIf, groundsOf}
-use Rattle.update.specs.Proposal.{proposalAt}
+use Rattle.judging.specs.Grades.{clockGrade, localB, gradeOf}
+use Rattle.judging.specs.Grounds.{epochB, rangeB, lowerB, secondsApart, unrealisticB, flagIf, groundsOf}
+use Rattle.judging.specs.Proposal.{proposalAt}
 use Rattle.update.specs.Response.{responseBytes}
-use Rattle.service.specs.Outcome.{Outcome, doneB, answered}
+use Rattle.refusals.specs.Outcome.{Outcome, doneB, answered}
 use Rattle.service.specs.Promises.{World, world}
-use Rattle.service.specs.Rows.{firstFailed, leftB, wholeB, tableRows, writeRows}
-use Rattle.service.specs.Rows as rows
+use Rattle.refusals.specs.Rows.{firstFailed, leftB, wholeB, tableRows, writeRows}
+use Rattle.refusals.specs.Rows as rows
 use Rattle.service.specs.Start.{newReaderOf}
 use Rattle.service.specs.Update.{updateRows, tableAfter, settledOf, effectOf, updateOf}
 use Rattle.access.specs.Codes.{codeOf}
 use Rattle.access.specs.Request.{operandBytes, typedB, filterAt, askedOf, abortOf, requestOf}
 use Rattle.access.specs.Request as requests
 use Rattle.access.specs.Response.{codeBytes, countBytes}
-use Rattle.transfer.specs.Report.{withRunning, numberIn, leftAt, leftFrom}
-use Rattle.transfer.specs.Report as reports
-use Rattle.transfer.specs.Access.{accessRows, accessed, begunOf, abortedOf, accessedOf, accessOf}
+use Rattle.asking.specs.Report.{withRunning, numberIn, leftAt, leftFrom}
+use Rattle.asking.specs.Report as reports
+use Rattle.asking.specs.Access.{accessRows, accessed, begunOf, abortedOf, accessedOf, accessOf}
 use Rattle.transfer.specs.Notify.{Notice, roomB, notifyRows, headerOf, segmentOf, leftAfter, closingOf, saidOf, noticed, runningNotice, notifyOf}
 use Rattle.tablet.specs.Joining.{emptyJoining, rangesB, filledB, placedB, followsB, standing, takesB, ground, takenOf, joinOf}
 use Rattle.promises.specs.Joined.{Got, joinAll}

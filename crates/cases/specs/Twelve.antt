@@ -10,13 +10,13 @@ use Rattle.octets.specs.Numbers.{at}
 use Rattle.record.specs.declared.kinds.Record.{Record}
 use Rattle.record.specs.declared.kinds.Record.the-variants.{TimeUpdate}
 use Rattle.record.specs.declared.kinds.Reading.the-variants.{Is}
-use Rattle.log.specs.Table.{next, held, soundB}
+use Rattle.table.specs.Table.{next, held, soundB}
 use Rattle.clock.specs.Answers.{numberOf}
 use Rattle.clock.specs.declared.state.Clock.{Clock}
 use Rattle.clock.specs.declared.state.Running.the-variants.{Idle}
 use Rattle.update.specs.Decide.{proposeOpcode, forceOpcode}
-use Rattle.update.specs.Grounds.{unrealistic, outOfRange}
-use Rattle.service.specs.Outcome.{Outcome}
+use Rattle.judging.specs.Grounds.{unrealistic, outOfRange}
+use Rattle.refusals.specs.Outcome.{Outcome}
 use Rattle.service.specs.Promises.{World}
 use Rattle.carry.specs.Carry.{laterOf, carriedOver, carriedFrom, carryOf}
 use Rattle.carry.specs.declared.stamp.Carried.{Carried}

@@ -12,7 +12,7 @@ use Rattle.octets.specs.Parts.{Bytes}
 use Rattle.rules.specs.Rules.{alignedBit}
 use Rattle.filter.specs.declared.request.Filter.{Filter}
 use Rattle.held.specs.Matching.{matching}
-use Rattle.log.specs.Table.{next, held, ageOf}
+use Rattle.table.specs.Table.{next, held, ageOf}
 use Rattle.log.specs.Writing.{appendOf}
 use Rattle.clock.specs.declared.answers.Answer.the-variants.{NothingRunning}
 use Rattle.clock.specs.declared.state.Clock.{Clock}
@@ -23,25 +23,25 @@ use Rattle.clock.specs.declared.state.Running.{Running}
 use Rattle.clock.specs.declared.state.Running.the-variants.{Idle, Reporting}
 use Rattle.update.specs.Accept.{acceptedOf, updateRecord}
 use Rattle.update.specs.Decide.{proposeOpcode, forceOpcode, judged, decideOf}
-use Rattle.update.specs.Grounds.{unrealistic, outOfRange, lowerQuality, wrongEpoch, realisticSeconds, epochB, rangeB, lowerB, unrealisticB, flagIf, groundsOf}
-use Rattle.update.specs.Proposal.{updateWriteBytes, proposalAt}
+use Rattle.judging.specs.Grounds.{unrealistic, outOfRange, lowerQuality, wrongEpoch, realisticSeconds, epochB, rangeB, lowerB, unrealisticB, flagIf, groundsOf}
+use Rattle.judging.specs.Proposal.{updateWriteBytes, proposalAt}
 use Rattle.update.specs.Response.{responseBytes}
 use Rattle.update.specs.declared.decide.Decision.{Decision}
 use Rattle.update.specs.declared.decide.Decision.the-variants.{Unsupported, WrongLength, Rejected, Taken}
-use Rattle.update.specs.declared.proposal.Proposal.{Proposal}
-use Rattle.service.specs.Outcome.{Outcome, doneB, refused, answered}
+use Rattle.judging.specs.declared.proposal.Proposal.{Proposal}
+use Rattle.refusals.specs.Outcome.{Outcome, doneB, refused, answered}
 use Rattle.service.specs.Promises.{successB, LoggedOne}
 use Rattle.service.specs.Fault.{faultRecord, faultedOf, endingOf, faultOf}
-use Rattle.service.specs.Rows.{firstFailed, tableRows}
+use Rattle.refusals.specs.Rows.{firstFailed, tableRows}
 use Rattle.service.specs.Update.{Settled, settled, updateRows, settledOf, updateOf}
 use Rattle.access.specs.Request.{opcodeIn, requestOf}
 use Rattle.access.specs.Response.{numberResponse, codeBytes, countBytes}
 use Rattle.access.specs.declared.request.Request.{Request}
 use Rattle.access.specs.declared.request.Request.the-variants as asked
-use Rattle.transfer.specs.Access.{accessRows, accessed, begunOf, abortedOf, responseIn, accessOf}
+use Rattle.asking.specs.Access.{accessRows, accessed, begunOf, abortedOf, responseIn, accessOf}
 use Rattle.transfer.specs.Notify.{Notice, notice, Said, said, unsaid, noticed, notifyRows, headerOf, counterAfter, lastB, segmentOf, leftAfter, closingOf, notifyOf}
-use Rattle.transfer.specs.Report.{report, withRunning, bytesIn, leftFrom}
-use Rattle.transfer.specs.declared.record_access.Accessed.{Accessed}
+use Rattle.asking.specs.Report.{report, withRunning, bytesIn, leftFrom}
+use Rattle.asking.specs.declared.record_access.Accessed.{Accessed}
 use Rattle.promises.specs.Reports.{FinishedReport}
 use Rattle.promises.specs.World.{Notifying}
 use Rattle.cases.specs.Reader.{write, caseFlags, propose, output, response, second}

@@ -11,14 +11,14 @@ use Rattle.octets.specs.Choice.{both, either}
 use Rattle.octets.specs.Parts.{over}
 use Rattle.clock.specs.declared.answers.Answer.{Answer}
 use Rattle.clock.specs.declared.state.Clock.{Clock}
-use Rattle.service.specs.Outcome.{doneB, refused, answered, Outcome}
+use Rattle.refusals.specs.Outcome.{doneB, refused, answered, Outcome}
 use Rattle.service.specs.Promises.{world}
-use Rattle.service.specs.Rows.{firstFailed, idleB, writeRows}
-use Rattle.service.proofs.RowLaws.{TableRows, table-done, write-all}
+use Rattle.refusals.specs.Rows.{firstFailed, idleB, writeRows}
+use Rattle.refusals.proofs.RowLaws.{TableRows, table-done, write-all}
 use Rattle.service.proofs.PromiseLaws.{passed}
 use Rattle.access.specs.Request.{opcodeIn, requestOf}
-use Rattle.transfer.specs.declared.record_access.Accessed.{Accessed}
-use Rattle.transfer.specs.Access.{accessRows, accessedOf, responseIn, accessOf}
+use Rattle.asking.specs.declared.record_access.Accessed.{Accessed}
+use Rattle.asking.specs.Access.{accessRows, accessedOf, responseIn, accessOf}
 use Rattle.promises.specs.World.{left}
 use Rattle.promises.specs.Reports.{responseTo}
 use Rattle.promises.specs.Hearing.{nothing}

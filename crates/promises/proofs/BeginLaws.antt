@@ -12,22 +12,22 @@ use Rattle.octets.specs.Choice.{pick}
 use Rattle.octets.specs.Parts.{Bytes}
 use Rattle.filter.specs.declared.request.Filter.{Filter}
 use Rattle.record.specs.declared.kinds.Record.{Record}
-use Rattle.log.specs.Table.{count, soundB}
+use Rattle.table.specs.Table.{count, soundB}
 use Rattle.held.specs.Matching.{matching}
 use Rattle.clock.specs.Rules.{opcodeB, filterB, clockB}
 use Rattle.clock.specs.declared.state.Clock.{Clock}
 use Rattle.clock.specs.declared.state.Left.{Left}
 use Rattle.clock.specs.declared.state.Left.the-variants.{From}
 use Rattle.clock.proofs.RuleLaws.{running-makes}
-use Rattle.service.specs.Outcome.{doneB, answered}
+use Rattle.refusals.specs.Outcome.{doneB, answered}
 use Rattle.service.specs.Promises.{World, world}
-use Rattle.service.proofs.RowLaws.{whole-reads}
+use Rattle.refusals.proofs.RowLaws.{whole-reads}
 use Rattle.access.specs.Codes.{codeOf}
 use Rattle.access.specs.Request.{opcodeIn, requestOf}
 use Rattle.access.specs.Response.{codeBytes}
 use Rattle.access.specs.declared.request.Request.the-variants.{Report}
-use Rattle.transfer.specs.Report.{report, withRunning, leftFrom}
-use Rattle.transfer.specs.Access.{accessed, begunOf, accessedOf, responseIn, accessOf}
+use Rattle.asking.specs.Report.{report, withRunning, leftFrom}
+use Rattle.asking.specs.Access.{accessed, begunOf, accessedOf, responseIn, accessOf}
 use Rattle.promises.specs.World.{left}
 use Rattle.promises.specs.Reports.{responseTo, AcceptedReport, Accepted, begun}
 use Rattle.promises.proofs.HeldLaws.{Stands, none, some, left-stands}

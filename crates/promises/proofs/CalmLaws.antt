@@ -8,11 +8,11 @@ use Rattle.octets.specs.Parts.{Bytes}
 use Rattle.octets.proofs.Tests.{clash, both-reads, both-yes}
 use Rattle.filter.specs.declared.request.Filter.{Filter}
 use Rattle.record.specs.declared.kinds.Record.{Record}
-use Rattle.log.specs.Table.{soundB}
+use Rattle.table.specs.Table.{soundB}
 use Rattle.clock.specs.declared.state.Clock.{Clock}
 use Rattle.clock.specs.declared.state.Running.{Running}
 use Rattle.service.specs.Promises.{world}
-use Rattle.service.specs.Rows.{idleB}
+use Rattle.refusals.specs.Rows.{idleB}
 use Rattle.promises.specs.World.{Call}
 use Rattle.promises.specs.Hearing.{nothing, undisturbedB, calmB, allCalmB}
 use Rattle.promises.specs.Reports.{askingsB}

@@ -12,9 +12,9 @@ use lib.ListN.{length}
 use Rattle.octets.specs.Parts.{Bytes}
 use Rattle.octets.proofs.Tests.{clash, both-reads}
 use Rattle.filter.specs.declared.request.Filter.{Filter}
-use Rattle.record.specs.Layout.{bytesOf}
+use Rattle.coding.specs.Layout.{bytesOf}
 use Rattle.record.specs.declared.kinds.Record.{Record}
-use Rattle.log.specs.Table.{soundB}
+use Rattle.table.specs.Table.{soundB}
 use Rattle.clock.specs.declared.state.Clock.{Clock}
 use Rattle.service.specs.Promises.{world}
 use Rattle.transfer.specs.Notify.{roomB}

@@ -12,16 +12,16 @@ use Rattle.octets.specs.Choice.{both}
 use Rattle.octets.specs.Parts.{Bytes}
 use Rattle.octets.proofs.Tests.{clash, both-reads}
 use Rattle.filter.specs.declared.request.Filter.{Filter}
-use Rattle.record.specs.Layout.{bytesOf}
-use Rattle.record.specs.WellFormed.{readOf}
+use Rattle.coding.specs.Layout.{bytesOf}
+use Rattle.coding.specs.WellFormed.{readOf}
 use Rattle.record.specs.declared.kinds.Record.{Record}
 use Rattle.record.specs.declared.kinds.Reading.the-variants.{Is}
-use Rattle.record.proofs.RoundTrip.{length-bytes}
-use Rattle.log.specs.Table.{soundB}
+use Rattle.coding.proofs.RoundTrip.{length-bytes}
+use Rattle.table.specs.Table.{soundB}
 use Rattle.clock.specs.declared.state.Clock.{Clock}
 use Rattle.service.specs.Promises.{World, world}
-use Rattle.service.specs.Rows.{idleB}
-use Rattle.transfer.specs.Report.{bytesIn}
+use Rattle.refusals.specs.Rows.{idleB}
+use Rattle.asking.specs.Report.{bytesIn}
 use Rattle.transfer.specs.Notify.{roomB}
 use Rattle.tablet.specs.Joining.{joined, joinOf, recordIn}
 use Rattle.tablet.specs.declared.joining.Answer.{Answer}

@@ -15,20 +15,19 @@ use Rattle.octets.proofs.PartLaws.{bytes-take, bytes-drop}
 use Rattle.filter.specs.Filter.{matchesB}
 use Rattle.filter.specs.declared.request.Filter.{Filter}
 use Rattle.record.specs.Fields.{sequenceOf}
-use Rattle.record.specs.Layout.{bytesOf, recordOf}
-use Rattle.record.specs.WellFormed.{wellFormedB, readOf}
+use Rattle.coding.specs.Layout.{bytesOf, recordOf}
+use Rattle.coding.specs.WellFormed.{wellFormedB, readOf}
 use Rattle.record.specs.declared.kinds.Record.{Record}
 use Rattle.record.specs.declared.kinds.Reading.the-variants.{Is}
-use Rattle.record.proofs.RoundTrip.{write-back, length-bytes}
-use Rattle.log.specs.Table.{count, next, oldest, slot, slots, bytesIn, recordIn, ring, held, slotB, rowB, after, first, ageOf, soundB, nextSlot}
-use Rattle.log.specs.Writing.{steps}
+use Rattle.coding.proofs.RoundTrip.{write-back, length-bytes}
+use Rattle.table.specs.Table.{count, next, oldest, slot, slots, bytesIn, recordIn, ring, held, slotB, rowB, after, first, ageOf, soundB, nextSlot, steps}
 use Rattle.held.specs.Matching.{matchingFrom, matchesAt}
-use Rattle.log.proofs.HeadLaws.{sound-reads, sound-head}
-use Rattle.log.proofs.RowLaws.{Slot, slot-reads}
+use Rattle.table.proofs.HeadLaws.{sound-reads, sound-head}
+use Rattle.table.proofs.RowLaws.{Slot, slot-reads}
 use Rattle.held.proofs.LookLaws.{slotAt, drop-held, matching-yes, matching-no, match-first, none-left, next-here, next-later, next-none}
 use Rattle.clock.specs.declared.state.Left.{Left}
 use Rattle.clock.specs.declared.state.Left.the-variants.{Nothing, From}
-use Rattle.transfer.specs.Report.{numberIn, leftAt, leftFrom}
+use Rattle.asking.specs.Report.{numberIn, leftAt, leftFrom}
 
 number-start : (s : ℕ) → s < 65536 → s ≡ (s + 0) % 65536
 number-start s h = omega arith

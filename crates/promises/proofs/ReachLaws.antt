@@ -13,7 +13,7 @@ use Rattle.octets.proofs.Tests.{clash, both-yes, both-reads}
 use Rattle.filter.specs.Filter.{matchesB}
 use Rattle.filter.specs.declared.request.Filter.{Filter}
 use Rattle.record.specs.declared.kinds.Record.{Record}
-use Rattle.log.specs.Table.{count, held, ageOf}
+use Rattle.table.specs.Table.{count, held, ageOf}
 use Rattle.clock.specs.Rules.{opcodeB, filterB, runningB}
 use Rattle.clock.specs.declared.state.Left.{Left}
 use Rattle.clock.specs.declared.state.Left.the-variants.{Nothing, From}
@@ -21,17 +21,17 @@ use Rattle.clock.specs.declared.state.Report.{Report}
 use Rattle.clock.specs.declared.state.Running.{Running}
 use Rattle.clock.specs.declared.state.Running.the-variants.{Idle, Reporting}
 use Rattle.clock.proofs.RuleLaws.{clock-reads, running-reads, running-makes}
-use Rattle.service.specs.Outcome.{doneB}
+use Rattle.refusals.specs.Outcome.{doneB}
 use Rattle.service.specs.Promises as service
 use Rattle.service.specs.Promises.{World, world, started, Good}
-use Rattle.service.specs.Rows.{firstFailed, unsentB, leftB}
-use Rattle.service.specs.Rows as rows
+use Rattle.refusals.specs.Rows.{firstFailed, unsentB, leftB}
+use Rattle.refusals.specs.Rows as rows
 use Rattle.service.proofs.ReachLaws.{kept, started-good}
 use Rattle.service.proofs.ReachLaws as services
 use Rattle.access.specs.Request.{opcodeIn}
 use Rattle.access.specs.declared.request.Request.{Request}
-use Rattle.transfer.specs.Report.{report, withRunning, bytesIn, leftFrom}
-use Rattle.transfer.specs.Access.{accessRows, accessed, begunOf, abortedOf, accessedOf}
+use Rattle.asking.specs.Report.{report, withRunning, bytesIn, leftFrom}
+use Rattle.asking.specs.Access.{accessRows, accessed, begunOf, abortedOf, accessedOf}
 use Rattle.transfer.specs.Notify.{notifyRows, counterAfter, lastB, leftAfter, saidOf, unsaid, noticed, runningNotice, notifyOf}
 use Rattle.promises.specs.World.{Call, seconds, switches, disconnect, fault, timeUpdate, recordAccess, notify, stepBy, stepOf, runOf}
 use Rattle.promises.proofs.RequestLaws.{Right, reports, numbers, ends, refuses, request-right}

@@ -11,7 +11,7 @@ use Rattle.octets.specs.Parts.{Bytes}
 use Rattle.filter.specs.declared.request.Filter.{Filter}
 use Rattle.record.specs.declared.kinds.Reading.{Reading}
 use Rattle.record.specs.declared.kinds.Reading.the-variants.{Is}
-use Rattle.log.specs.Table.{soundB}
+use Rattle.table.specs.Table.{soundB}
 use Rattle.held.specs.Matching.{matching}
 use Rattle.clock.specs.Rules.{opcodeB}
 use Rattle.access.specs.Codes.{codeOf}

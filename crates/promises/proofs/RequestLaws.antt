@@ -17,7 +17,7 @@ use Rattle.access.specs.declared.request.Asked.{Asked}
 use Rattle.access.specs.declared.request.Asked.the-variants as asked
 use Rattle.access.specs.declared.request.Request.{Request}
 use Rattle.access.specs.declared.request.Request.the-variants.{Report, Number, Abort, Refused}
-use Rattle.transfer.specs.Report.{report}
+use Rattle.asking.specs.Report.{report}
 use Rattle.promises.specs.Hearing.{nothing}
 
 -- with the opcode of an Abort: an Abort, or one with a wrong operator or operand

@@ -13,11 +13,11 @@ use Rattle.octets.specs.Choice.{pick}
 use Rattle.octets.specs.Parts.{Bytes, over}
 use Rattle.octets.proofs.Tests.{both-yes}
 use Rattle.filter.specs.declared.request.Filter.{Filter}
-use Rattle.record.specs.Layout.{bytesOf}
-use Rattle.record.specs.WellFormed.{readOf}
+use Rattle.coding.specs.Layout.{bytesOf}
+use Rattle.coding.specs.WellFormed.{readOf}
 use Rattle.record.specs.declared.kinds.Record.{Record}
 use Rattle.record.specs.declared.kinds.Reading.the-variants.{Is}
-use Rattle.log.specs.Table.{count, held, ageOf, soundB}
+use Rattle.table.specs.Table.{count, held, ageOf, soundB}
 use Rattle.held.specs.Matching.{matching}
 use Rattle.clock.specs.Answers.{numberOf}
 use Rattle.clock.specs.Rules.{clockB, runningB}
@@ -28,14 +28,14 @@ use Rattle.clock.specs.declared.state.Left.the-variants.{Nothing, From}
 use Rattle.clock.specs.declared.state.Running.{Running}
 use Rattle.clock.specs.declared.state.Running.the-variants.{Reporting}
 use Rattle.clock.proofs.RuleLaws.{clock-reads, clock-makes, running-reads, running-makes}
-use Rattle.service.specs.Outcome.{doneB}
+use Rattle.refusals.specs.Outcome.{doneB}
 use Rattle.service.specs.Promises.{world}
-use Rattle.service.specs.Rows.{firstFailed, leftB, wholeB, tableRows}
-use Rattle.service.specs.Rows as rows
-use Rattle.service.proofs.RowLaws.{left-held}
+use Rattle.refusals.specs.Rows.{firstFailed, leftB, wholeB, tableRows}
+use Rattle.refusals.specs.Rows as rows
+use Rattle.refusals.proofs.RowLaws.{left-held}
 use Rattle.access.specs.Response.{codeBytes, countBytes}
 use Rattle.access.specs.declared.codes.Code.the-variants.{Success}
-use Rattle.transfer.specs.Report.{report, withRunning, bytesIn, leftFrom}
+use Rattle.asking.specs.Report.{report, withRunning, bytesIn, leftFrom}
 use Rattle.transfer.specs.Notify.{roomB, notifyRows, counterAfter, lastB, segmentOf, leftAfter, closingOf, Said, saidOf, Notice, unsaid, noticed, runningNotice, notifyOf}
 use Rattle.promises.specs.World.{notify, stepBy, stepOf}
 use Rattle.promises.specs.Hearing.{nothing, segment, closing, heardIn, heardBy, heardOf}

@@ -11,7 +11,7 @@ use Rattle.octets.specs.Parts.{Bytes}
 use Rattle.octets.proofs.Tests.{clash}
 use Rattle.filter.specs.declared.request.Filter.{Filter}
 use Rattle.record.specs.declared.kinds.Record.{Record}
-use Rattle.log.specs.Table.{soundB}
+use Rattle.table.specs.Table.{soundB}
 use Rattle.clock.specs.Rules.{opcodeB, clockB}
 use Rattle.clock.specs.Events.{withBase, withSwitches, disconnected}
 use Rattle.clock.specs.declared.events.Event.{Event}
@@ -19,9 +19,9 @@ use Rattle.clock.specs.declared.state.Clock.{Clock}
 use Rattle.clock.proofs.EventLaws.{Seconds, refuses-2, refuses-7, rises, Changed, changes, seconds-is, switches-is, disconnect-done}
 use Rattle.clock.proofs.PromiseLaws.{obeys}
 use Rattle.service.specs.Fault.{faultedOf}
-use Rattle.service.specs.Outcome.{Outcome, doneB, answered}
+use Rattle.refusals.specs.Outcome.{Outcome, doneB, answered}
 use Rattle.service.specs.Promises.{World, world}
-use Rattle.service.specs.Rows.{firstFailed, idleB, tableRows}
+use Rattle.refusals.specs.Rows.{firstFailed, idleB, tableRows}
 use Rattle.service.specs.Update.{updateRows}
 use Rattle.service.proofs.FaultLaws.{fault-refused, fault-done}
 use Rattle.service.proofs.PromiseLaws.{passed}
@@ -29,8 +29,8 @@ use Rattle.service.proofs.UpdateLaws.{update-refused}
 use Rattle.access.specs.Request.{opcodeIn, requestOf}
 use Rattle.access.specs.declared.request.Request.{Request}
 use Rattle.access.specs.declared.request.Request.the-variants.{Abort}
-use Rattle.transfer.specs.Report.{report, withRunning}
-use Rattle.transfer.specs.Access.{accessRows, accessed, abortedOf, accessedOf, accessOf}
+use Rattle.asking.specs.Report.{report, withRunning}
+use Rattle.asking.specs.Access.{accessRows, accessed, abortedOf, accessedOf, accessOf}
 use Rattle.transfer.specs.Notify.{roomB, Notice}
 use Rattle.promises.specs.World.{Call, seconds, switches, disconnect, fault, timeUpdate, recordAccess, notify, left, stepBy, stepOf}
 use Rattle.promises.specs.Hearing.{nothing, heardIn, heardBy, heardOf, calmB}

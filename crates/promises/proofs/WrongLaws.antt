@@ -7,7 +7,7 @@ use Prim.Native.Nat.{ℕ}
 use native.Mathlib.Omega.{arith}
 use Rattle.octets.proofs.Tests.{clash}
 use Rattle.filter.specs.declared.request.Filter.the-variants.{All}
-use Rattle.record.specs.WellFormed.{numberOf}
+use Rattle.coding.specs.WellFormed.{numberOf}
 use Rattle.record.specs.declared.kinds.Reading.{Reading}
 use Rattle.clock.specs.declared.state.Clock.{Clock}
 use Rattle.clock.specs.declared.state.Left.the-variants.{Nothing, From}

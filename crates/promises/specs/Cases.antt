@@ -9,13 +9,13 @@ use Rattle.rules.specs.Rules.{baseB, zoneB, dstB, sourceB, statusB, bitsB}
 use Rattle.filter.specs.Filter.{matchesB}
 use Rattle.filter.specs.declared.request.Filter.the-variants.{All, Range}
 use Rattle.record.specs.Fields.{sequenceOf}
-use Rattle.record.specs.Layout.{updateBytes, faultBytes, bytesOf, updateAt, faultAt, recordOf, sizedB, shapeB}
-use Rattle.record.specs.WellFormed.{updateB, faultB, recordB, wellFormedB, readOf}
+use Rattle.coding.specs.Layout.{updateBytes, faultBytes, bytesOf, updateAt, faultAt, recordOf, sizedB, shapeB}
+use Rattle.coding.specs.WellFormed.{updateB, faultB, recordB, wellFormedB, readOf}
 use Rattle.record.specs.declared.kinds.Record.{Record}
 use Rattle.record.specs.declared.kinds.Record.the-variants.{TimeUpdate, TimeFault}
 use Rattle.record.specs.declared.kinds.Reading.the-variants.{Is}
-use Rattle.log.specs.Table.{sizeB, startB, emptyB, fieldsB, headB, slot, bytesIn, recordIn, slots, ring, held, slotB, rowB, soundB}
-use Rattle.log.specs.Writing.{fresh, steps, placeOf, slotOf, headerAfter, appendOf, logAll}
+use Rattle.table.specs.Table.{sizeB, startB, emptyB, fieldsB, headB, slot, bytesIn, recordIn, slots, ring, held, slotB, rowB, soundB, steps}
+use Rattle.log.specs.Writing.{fresh, placeOf, slotOf, headerAfter, appendOf, logAll}
 use Rattle.held.specs.Matching.{firstFrom, nextMatch, matchingFrom, matching}
 use Rattle.clock.specs.Answers.{numberOf}
 use Rattle.clock.specs.Rules.{opcodeB, filterB, counterB, reportB, clockB}
@@ -24,19 +24,19 @@ use Rattle.clock.specs.Events.{unlessBroken, withBase, withSwitches, secondsOf,
 use Rattle.clock.specs.declared.state.Clock.{Clock}
 use Rattle.clock.specs.declared.state.Running.the-variants.{Idle}
 use Rattle.service.specs.Fault.{countAfter, faultRecord, faultedOf, endingOf, faultOf}
-use Rattle.service.specs.Outcome.{doneB, answered}
+use Rattle.refusals.specs.Outcome.{doneB, answered}
 use Rattle.service.specs.Promises.{world}
-use Rattle.service.specs.Rows.{firstFailed, leftB, wholeB, tableRows, writeRows}
-use Rattle.service.specs.Rows as rows
+use Rattle.refusals.specs.Rows.{firstFailed, leftB, wholeB, tableRows, writeRows}
+use Rattle.refusals.specs.Rows as rows
 use Rattle.service.specs.Update.{updateRows, updateOf}
 use Rattle.access.specs.Codes.{codeOf}
 use Rattle.access.specs.Request.{operandBytes, typedB, filterAt, operandOf, askedOf, abortOf, requestOf}
 use Rattle.access.specs.Response.{codeBytes, countBytes}
 use Rattle.access.specs.declared.request.Request.{Request}
 use Rattle.access.specs.declared.request.Request.the-variants.{Report}
-use Rattle.transfer.specs.Report.{withRunning, numberIn, leftAt, leftFrom}
-use Rattle.transfer.specs.Report as reports
-use Rattle.transfer.specs.Access.{accessRows, accessed, begunOf, abortedOf, accessedOf, accessOf}
+use Rattle.asking.specs.Report.{withRunning, numberIn, leftAt, leftFrom}
+use Rattle.asking.specs.Report as reports
+use Rattle.asking.specs.Access.{accessRows, accessed, begunOf, abortedOf, accessedOf, accessOf}
 use Rattle.transfer.specs.Notify.{roomB, notifyRows, headerOf, segmentOf, leftAfter, closingOf, saidOf, noticed, runningNotice, notifyOf}
 use Rattle.tablet.specs.Joining.{emptyJoining, rangesB, filledB, placedB, followsB, standing, takesB, ground, takenOf, joinOf}
 use Rattle.promises.specs.World.{Call, seconds, switches, fault, recordAccess, notify, Notifying, stepBy}

@@ -2,7 +2,7 @@
 use mathlib.Core.Bool.{Bool, true, false}
 use mathlib.Core.List.{List, [], _∷_}
 use Prim.Native.Nat.{ℕ}
-use Rattle.record.specs.WellFormed.{readOf}
+use Rattle.coding.specs.WellFormed.{readOf}
 use Rattle.record.specs.declared.kinds.Reading.{Reading}
 use Rattle.tablet.specs.Joining.{joinOf, recordIn}
 use Rattle.tablet.specs.declared.joining.Answer.{Answer}

@@ -5,7 +5,7 @@ use mathlib.Core.List.{List}
 use Prim.Native.Nat.{ℕ}
 use lib.ListN.{length}
 use Rattle.filter.specs.declared.request.Filter.{Filter}
-use Rattle.log.specs.Table.{sizeB}
+use Rattle.table.specs.Table.{sizeB}
 use Rattle.service.specs.Promises.{started, Good}
 use Rattle.promises.specs.World.{Call, runOf}
 use Rattle.promises.specs.Hearing.{hearingOf, allCalmB}

@@ -9,15 +9,15 @@ use Rattle.octets.specs.Choice.{both, either, pick}
 use Rattle.octets.specs.Numbers.{bytes2}
 use Rattle.octets.specs.Parts.{Bytes}
 use Rattle.filter.specs.declared.request.Filter.{Filter}
-use Rattle.record.specs.Layout.{bytesOf}
+use Rattle.coding.specs.Layout.{bytesOf}
 use Rattle.record.specs.declared.kinds.Record.{Record}
 use Rattle.record.specs.declared.kinds.Reading.the-variants.{Is}
 use Rattle.held.specs.Matching.{matching}
-use Rattle.service.specs.Outcome.{doneB}
+use Rattle.refusals.specs.Outcome.{doneB}
 use Rattle.service.specs.Promises.{World}
 use Rattle.access.specs.Request.{opcodeIn, requestOf}
 use Rattle.access.specs.declared.request.Request.the-variants.{Report}
-use Rattle.transfer.specs.Access.{accessOf}
+use Rattle.asking.specs.Access.{accessOf}
 use Rattle.transfer.specs.Notify.{roomB}
 use Rattle.tablet.specs.Joining.{emptyJoining}
 use Rattle.promises.specs.World.{Call, seconds, switches, disconnect, fault, timeUpdate, recordAccess, notify, Notifying, left}

@@ -6,10 +6,10 @@ use Rattle.octets.specs.Parts.{Bytes}
 use Rattle.clock.specs.Events.{secondsOf, switchesOf, disconnectOf}
 use Rattle.clock.specs.declared.state.Clock.{Clock}
 use Rattle.service.specs.Fault.{faultOf}
-use Rattle.service.specs.Outcome.{Outcome}
+use Rattle.refusals.specs.Outcome.{Outcome}
 use Rattle.service.specs.Promises.{World, world}
 use Rattle.service.specs.Update.{updateOf}
-use Rattle.transfer.specs.Access.{accessOf}
+use Rattle.asking.specs.Access.{accessOf}
 use Rattle.transfer.specs.Notify.{Notice, notifyOf}
 
 -- Every call of the server with what it is lent: o is the output, w a write, p a payload size. A write to the DTCP is bytes.

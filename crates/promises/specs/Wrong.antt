@@ -7,7 +7,7 @@ use Prim.Native.Nat.{ℕ, _-_}
 use lib.Dec.{eqb}
 use lib.ListN.{take, drop}
 use Rattle.octets.specs.Choice.{pick}
-use Rattle.log.specs.Table.{held, ageOf}
+use Rattle.table.specs.Table.{held, ageOf}
 use Rattle.clock.specs.declared.answers.Answer.the-variants.{NothingRunning}
 use Rattle.clock.specs.declared.state.Clock.{Clock}
 use Rattle.clock.specs.declared.state.Left.{Left}
@@ -15,9 +15,9 @@ use Rattle.clock.specs.declared.state.Left.the-variants.{Nothing, From}
 use Rattle.clock.specs.declared.state.Report.{Report}
 use Rattle.clock.specs.declared.state.Running.{Running}
 use Rattle.clock.specs.declared.state.Running.the-variants.{Idle, Reporting}
-use Rattle.service.specs.Outcome.{doneB}
-use Rattle.service.specs.Rows.{firstFailed}
-use Rattle.transfer.specs.Report.{report, withRunning, bytesIn}
+use Rattle.refusals.specs.Outcome.{doneB}
+use Rattle.refusals.specs.Rows.{firstFailed}
+use Rattle.asking.specs.Report.{report, withRunning, bytesIn}
 use Rattle.transfer.specs.Notify.{notifyRows, headerOf, counterAfter, lastB, segmentOf, leftAfter, closingOf, Said, said, Notice, unsaid, noticed, notifyOf}
 use Rattle.promises.specs.World.{Notifying}
 use Rattle.promises.specs.Reports.{FinishedReport}

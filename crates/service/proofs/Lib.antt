@@ -1,4 +1,3 @@
-pub mod RowLaws
 pub mod FaultLaws
 pub mod BeginLaws
 pub mod UpdateLaws

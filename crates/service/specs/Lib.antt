@@ -1,5 +1,3 @@
-pub mod Outcome
-pub mod Rows
 pub mod Fault
 pub mod Start
 pub mod Update

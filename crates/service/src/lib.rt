@@ -2,7 +2,5 @@
 // decides, and what it writes.
 pub mod fault;
 pub mod promises;
-pub mod reply;
-pub mod rows;
 pub mod start;
 pub mod time_update;

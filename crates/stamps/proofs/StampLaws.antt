@@ -14,9 +14,9 @@ use Rattle.octets.specs.Choice.{pick}
 use Rattle.octets.proofs.Tests.{clash}
 use Rattle.record.specs.declared.kinds.Record.{Record}
 use Rattle.record.specs.declared.kinds.Record.the-variants.{TimeUpdate, TimeFault}
-use Rattle.log.specs.Table.{slotsIn, sizeB, capacity, next, held}
+use Rattle.table.specs.Table.{slotsIn, sizeB, capacity, next, held}
 use Rattle.log.specs.Writing.{newest}
-use Rattle.log.proofs.HeadLaws.{size-reads, sound-head}
+use Rattle.table.proofs.HeadLaws.{size-reads, sound-head}
 use Rattle.log.proofs.HistoryLaws.{length-held}
 use Rattle.log.proofs.StartLaws.{starts}
 use Rattle.clock.proofs.RuleLaws.{clock-reads}

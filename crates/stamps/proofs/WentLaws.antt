@@ -12,10 +12,10 @@ use Rattle.octets.proofs.Tests.{clash, both-reads}
 use Rattle.record.specs.Fields.{Fits}
 use Rattle.record.specs.declared.kinds.Record.{Record}
 use Rattle.record.specs.declared.kinds.Record.the-variants.{TimeUpdate, TimeFault}
-use Rattle.log.specs.Table.{capacity, next, held}
+use Rattle.table.specs.Table.{capacity, next, held}
 use Rattle.log.specs.Writing.{appendOf, newest}
 use Rattle.log.proofs.AppendLaws.{next-appended, capacity-appended}
-use Rattle.log.proofs.HeadLaws.{sound-head}
+use Rattle.table.proofs.HeadLaws.{sound-head}
 use Rattle.log.proofs.HistoryLaws.{newest-appended}
 use Rattle.clock.specs.Answers.{numberOf}
 use Rattle.clock.specs.Events.{withBase, withSwitches, disconnected}
@@ -23,16 +23,16 @@ use Rattle.clock.specs.declared.events.Event.{Event}
 use Rattle.clock.specs.declared.state.Clock.{Clock}
 use Rattle.clock.proofs.EventLaws.{Seconds, refuses-2, refuses-7, rises, Changed, changes, seconds-is, switches-is, disconnect-is}
 use Rattle.update.specs.Accept.{acceptedOf, updateRecord}
-use Rattle.update.specs.Proposal.{proposalAt}
+use Rattle.judging.specs.Proposal.{proposalAt}
 use Rattle.update.proofs.AcceptLaws.{record-fits}
-use Rattle.update.proofs.ProposalLaws.{proposal-sized}
+use Rattle.judging.proofs.ProposalLaws.{proposal-sized}
 use Rattle.service.specs.Fault.{faultRecord, faultedOf, faultOf}
-use Rattle.service.specs.Outcome.{doneB}
+use Rattle.refusals.specs.Outcome.{doneB}
 use Rattle.service.specs.Promises.{World, world, successB, Good}
 use Rattle.service.specs.Update.{updateOf}
 use Rattle.service.proofs.PromiseLaws.{logged, refused-unchanged}
 use Rattle.service.proofs.ReachLaws.{fault-loggable}
-use Rattle.transfer.specs.Report.{withRunning}
+use Rattle.asking.specs.Report.{withRunning}
 use Rattle.promises.specs.World.{Call, seconds, switches, disconnect, fault, timeUpdate, recordAccess, notify, left, stepBy, stepOf, runOf}
 use Rattle.stamps.specs.Stamps.{ranIn, ranOf, loggedIn, loggedOf, noFaultB}
 use Rattle.promises.proofs.ReachLaws.{Turned, same, turns, access-turned, notify-turned, call-good}

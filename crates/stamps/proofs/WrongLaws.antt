@@ -11,19 +11,19 @@ use lib.IntN.{ℤ, pos, negsuc}
 use lib.ListN.{length, replicate, drop-of-length-le}
 use Rattle.octets.proofs.Tests.{clash, both-yes}
 use Rattle.record.specs.declared.kinds.Record.{Record}
-use Rattle.log.specs.Table.{slotsIn, sizeB, next, held}
+use Rattle.table.specs.Table.{slotsIn, sizeB, next, held}
 use Rattle.log.specs.Writing.{newest}
-use Rattle.log.proofs.HeadLaws.{size-reads}
+use Rattle.table.proofs.HeadLaws.{size-reads}
 use Rattle.log.proofs.StartLaws.{starts}
 use Rattle.clock.specs.Answers as clocks
 use Rattle.clock.proofs.RuleLaws.{clock-reads}
 use Rattle.service.specs.Fault.{faultRecord}
-use Rattle.service.specs.Outcome.{doneB, answered}
+use Rattle.refusals.specs.Outcome.{doneB, answered}
 use Rattle.service.specs.Promises.{World, started, Good}
-use Rattle.service.specs.Rows.{wholeB}
+use Rattle.refusals.specs.Rows.{wholeB}
 use Rattle.service.proofs.FaultLaws.{fault-done}
 use Rattle.service.proofs.ReachLaws.{started-good}
-use Rattle.service.proofs.RowLaws.{table-0}
+use Rattle.refusals.proofs.RowLaws.{table-0}
 use Rattle.carry.specs.Carry.{laterOf, carriedOver, carriedFrom, carryOf, numberOf}
 use Rattle.carry.specs.declared.stamp.Carried.{Carried}
 use Rattle.carry.specs.declared.stamp.Carried.the-variants.{To, TableNotSound, NotHeld, FaultAmong, PastRange}

@@ -10,10 +10,10 @@ use Rattle.octets.specs.Parts.{Bytes, zerosB, over}
 use Rattle.rules.specs.Rules.{baseB, zoneB, dstB, sourceB, statusB, bitsB}
 use Rattle.filter.specs.Filter.{matchesB}
 use Rattle.record.specs.Fields.{sequenceOf}
-use Rattle.record.specs.Layout.{updateBytes, faultBytes, bytesOf, updateAt, faultAt, recordOf, sizedB, shapeB}
-use Rattle.record.specs.WellFormed.{updateB, faultB, recordB, wellFormedB}
-use Rattle.log.specs.Table.{sizeB, startB, emptyB, fieldsB, headB, next, slot, bytesIn, recordIn, slots, ring, held, slotB, rowB, soundB}
-use Rattle.log.specs.Writing.{fresh, steps, placeOf, slotOf, headerAfter, appendOf}
+use Rattle.coding.specs.Layout.{updateBytes, faultBytes, bytesOf, updateAt, faultAt, recordOf, sizedB, shapeB}
+use Rattle.coding.specs.WellFormed.{updateB, faultB, recordB, wellFormedB}
+use Rattle.table.specs.Table.{sizeB, startB, emptyB, fieldsB, headB, next, slot, bytesIn, recordIn, slots, ring, held, slotB, rowB, soundB, steps}
+use Rattle.log.specs.Writing.{fresh, placeOf, slotOf, headerAfter, appendOf}
 use Rattle.held.specs.Matching.{firstFrom, nextMatch, matchingFrom, matching}
 use Rattle.clock.specs.Answers.{numberOf}
 use Rattle.clock.specs.State.{newReader}
@@ -23,23 +23,23 @@ use Rattle.clock.specs.Events.{unlessBroken, withBase, withSwitches, secondsOf,
 use Rattle.update.specs.Accept.{statusAfter, alignedAfter, accuracyOf, acceptedOf, loggedB, updateRecord}
 use Rattle.update.specs.Decide.{judged, operandOf, decideOf}
 use Rattle.update.specs.Decide as decide
-use Rattle.update.specs.Grades.{clockGrade, localB, gradeOf}
-use Rattle.update.specs.Grounds.{epochB, rangeB, lowerB, secondsApart, unrealisticB, flagIf, groundsOf}
-use Rattle.update.specs.Proposal.{proposalAt}
+use Rattle.judging.specs.Grades.{clockGrade, localB, gradeOf}
+use Rattle.judging.specs.Grounds.{epochB, rangeB, lowerB, secondsApart, unrealisticB, flagIf, groundsOf}
+use Rattle.judging.specs.Proposal.{proposalAt}
 use Rattle.update.specs.Response.{responseBytes}
 use Rattle.service.specs.Fault.{countAfter, faultRecord, faultedOf, endingOf, faultOf}
-use Rattle.service.specs.Outcome.{doneB, answered}
+use Rattle.refusals.specs.Outcome.{doneB, answered}
 use Rattle.service.specs.Promises.{started}
-use Rattle.service.specs.Rows.{firstFailed, leftB, wholeB, tableRows, writeRows}
-use Rattle.service.specs.Rows as rows
+use Rattle.refusals.specs.Rows.{firstFailed, leftB, wholeB, tableRows, writeRows}
+use Rattle.refusals.specs.Rows as rows
 use Rattle.service.specs.Update.{updateRows, tableAfter, settledOf, effectOf, updateOf}
 use Rattle.access.specs.Codes.{codeOf}
 use Rattle.access.specs.Request.{operandBytes, typedB, filterAt, askedOf, abortOf, requestOf}
 use Rattle.access.specs.Request as request
 use Rattle.access.specs.Response.{codeBytes, countBytes}
-use Rattle.transfer.specs.Report.{withRunning, numberIn, leftAt, leftFrom}
-use Rattle.transfer.specs.Report as reports
-use Rattle.transfer.specs.Access.{accessRows, accessed, begunOf, abortedOf, accessedOf, accessOf}
+use Rattle.asking.specs.Report.{withRunning, numberIn, leftAt, leftFrom}
+use Rattle.asking.specs.Report as reports
+use Rattle.asking.specs.Access.{accessRows, accessed, begunOf, abortedOf, accessedOf, accessOf}
 use Rattle.transfer.specs.Notify.{roomB, notifyRows, headerOf, segmentOf, leftAfter, closingOf, saidOf, noticed, runningNotice, notifyOf}
 use Rattle.carry.specs.Carry.{laterOf, carriedOver, carriedFrom, carryOf}
 use Rattle.carry.specs.declared.stamp.Carried.{Carried}

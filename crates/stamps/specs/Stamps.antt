@@ -9,13 +9,13 @@ use lib.ListN.{length}
 use Rattle.octets.specs.Choice.{both, pick}
 use Rattle.record.specs.declared.kinds.Record.{Record}
 use Rattle.record.specs.declared.kinds.Record.the-variants.{TimeUpdate, TimeFault}
-use Rattle.log.specs.Table.{slotsIn, sizeB, next, held}
+use Rattle.table.specs.Table.{slotsIn, sizeB, next, held}
 use Rattle.log.specs.Writing.{newest}
 use Rattle.clock.specs.Events.{secondsOf}
-use Rattle.update.specs.Proposal.{proposalAt}
+use Rattle.judging.specs.Proposal.{proposalAt}
 use Rattle.update.specs.Accept.{updateRecord}
 use Rattle.service.specs.Fault.{faultRecord, faultOf}
-use Rattle.service.specs.Outcome.{doneB}
+use Rattle.refusals.specs.Outcome.{doneB}
 use Rattle.service.specs.Promises.{World, successB, started}
 use Rattle.service.specs.Update.{updateOf}
 use Rattle.carry.specs.Carry.{numberOf}

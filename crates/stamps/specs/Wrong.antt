@@ -9,7 +9,7 @@ use lib.ListN.{length, take}
 use Rattle.octets.specs.Choice.{pick}
 use Rattle.record.specs.declared.kinds.Record.{Record}
 use Rattle.record.specs.declared.kinds.Record.the-variants.{TimeUpdate, TimeFault}
-use Rattle.log.specs.Table.{sizeB, next, held, soundB}
+use Rattle.table.specs.Table.{sizeB, next, held, soundB}
 use Rattle.log.specs.Writing.{newest}
 use Rattle.service.specs.Promises.{started}
 use Rattle.carry.specs.Carry.{laterOf, carriedOver, carryOf, numberOf}

@@ -1,3 +1,2 @@
 pub mod JoiningLaws
 pub mod ReadingLaws
-pub mod PromiseLaws

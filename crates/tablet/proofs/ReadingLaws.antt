@@ -9,10 +9,10 @@ use native.Mathlib.Omega.{arith}
 use lib.ListN.{length}
 use lib.Seq.{take-all}
 use Rattle.octets.proofs.Tests.{false-by, both-reads}
-use Rattle.record.specs.Layout.{shapeB, recordOf}
-use Rattle.record.specs.WellFormed.{recordB, wellFormedB, readOf}
+use Rattle.coding.specs.Layout.{shapeB, recordOf}
+use Rattle.coding.specs.WellFormed.{recordB, wellFormedB, readOf}
 use Rattle.record.specs.declared.kinds.Reading.the-variants.{Refused}
-use Rattle.record.proofs.ShapeLaws.{sized-reads, shape-sized}
+use Rattle.coding.proofs.ShapeLaws.{sized-reads, shape-sized}
 use Rattle.tablet.specs.Joining.{mostBytes}
 use Rattle.tablet.specs.Reading.{readJoinedOf}
 use Rattle.tablet.specs.declared.joining.Joining.{Joining}

@@ -1,4 +1,2 @@
 pub mod Joining
 pub mod Reading
-pub mod Promises
-pub mod Cases

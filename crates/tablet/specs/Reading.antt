@@ -1,5 +1,5 @@
 -- Reading the record that was joined.
-use Rattle.record.specs.WellFormed.{readOf}
+use Rattle.coding.specs.WellFormed.{readOf}
 use Rattle.record.specs.declared.kinds.Reading.{Reading}
 use Rattle.tablet.specs.Joining.{recordIn}
 use Rattle.tablet.specs.declared.joining.Joining.{Joining}

@@ -1,4 +1,3 @@
 // The tablet's half: notifications joined into records, and records read.
 pub mod joining;
-pub mod promises;
 pub mod reading;

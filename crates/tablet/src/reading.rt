@@ -1,8 +1,8 @@
 // Reading the record that was joined.
 use crate::joining::Joining;
 use crate::joining::MOST_BYTES;
+use coding::reading::read;
 use record::kinds::Reading;
-use record::reading::read;
 ghost use mathlib.Core.Path.{_≡_};
 ghost use Rattle.tablet.specs.Reading.{readJoinedOf};
 

@@ -10,9 +10,9 @@ use lib.ListN.{length, drop}
 use Rattle.octets.specs.Choice.{both}
 use Rattle.octets.specs.Parts.{over}
 use Rattle.octets.proofs.Tests.{both-reads}
-use Rattle.record.specs.Layout.{bytesOf}
+use Rattle.coding.specs.Layout.{bytesOf}
 use Rattle.record.specs.declared.kinds.Record.{Record}
-use Rattle.log.specs.Table.{held, ageOf, soundB}
+use Rattle.table.specs.Table.{held, ageOf, soundB}
 use Rattle.clock.specs.Answers.{numberOf}
 use Rattle.clock.specs.declared.answers.Answer.{Answer}
 use Rattle.clock.specs.declared.answers.Answer.the-variants.{Done, NothingRunning}
@@ -24,10 +24,10 @@ use Rattle.clock.specs.declared.state.Running.{Running}
 use Rattle.clock.specs.declared.state.Running.the-variants.{Idle, Reporting}
 use Rattle.clock.specs.Rules as rules
 use Rattle.clock.proofs.RuleLaws.{clock-reads, running-reads}
-use Rattle.service.specs.Outcome.{doneB}
-use Rattle.service.specs.Rows.{row, firstFailed, thenOf, leftB, runningB, idleB, tableRows}
-use Rattle.service.proofs.RowLaws.{rows-append, table-refuse, TableRows, whole-reads}
-use Rattle.transfer.specs.Report.{report, withRunning, bytesIn}
+use Rattle.refusals.specs.Outcome.{doneB}
+use Rattle.refusals.specs.Rows.{row, firstFailed, thenOf, leftB, runningB, idleB, tableRows}
+use Rattle.refusals.proofs.RowLaws.{rows-append, table-refuse, TableRows, whole-reads}
+use Rattle.asking.specs.Report.{report, withRunning, bytesIn}
 use Rattle.transfer.specs.Notify.{Notice, roomB, notifyRows, counterAfter, segmentOf, leftAfter, saidOf, notice, unsaid, noticed, runningNotice, notifyOf}
 
 -- a segment of the next record r₀ was laid down, and the report goes on

@@ -13,7 +13,7 @@ use lib.Seq.{take-append-le, drop-append-le, drop-drop, take-at, take-all, lengt
 use Rattle.octets.specs.Choice.{pick}
 use Rattle.octets.specs.Parts.{over}
 use Rattle.filter.specs.declared.request.Filter.{Filter}
-use Rattle.log.specs.Table.{ageOf}
+use Rattle.table.specs.Table.{ageOf}
 use Rattle.held.specs.Matching.{matching}
 use Rattle.clock.specs.declared.state.Left.{Left}
 use Rattle.clock.specs.declared.state.Left.the-variants.{From}
@@ -21,7 +21,7 @@ use Rattle.clock.specs.declared.state.Report.{Report}
 use Rattle.access.specs.Request.{reportOpcode, combinedOpcode}
 use Rattle.access.specs.Response.{combinedResponse, codeBytes, countBytes}
 use Rattle.access.specs.declared.codes.Code.the-variants.{Success}
-use Rattle.transfer.specs.Report.{leftFrom}
+use Rattle.asking.specs.Report.{leftFrom}
 use Rattle.transfer.specs.Notify.{leftAfter, closingOf}
 
 -- bytes laid down after a first one

@@ -8,7 +8,7 @@ use lib.ListN.{length, take, drop}
 use Rattle.octets.specs.Choice.{both, pick}
 use Rattle.octets.specs.Parts.{over}
 use Rattle.filter.specs.declared.request.Filter.{Filter}
-use Rattle.log.specs.Table.{held, ageOf}
+use Rattle.table.specs.Table.{held, ageOf}
 use Rattle.held.specs.Matching.{matching}
 use Rattle.clock.specs.declared.answers.Answer.{Answer}
 use Rattle.clock.specs.declared.answers.Answer.the-variants.{Done, NothingRunning}
@@ -18,12 +18,12 @@ use Rattle.clock.specs.declared.state.Left.the-variants.{Nothing, From}
 use Rattle.clock.specs.declared.state.Report.{Report}
 use Rattle.clock.specs.declared.state.Running.{Running}
 use Rattle.clock.specs.declared.state.Running.the-variants.{Idle, Reporting}
-use Rattle.service.specs.Outcome.{doneB}
-use Rattle.service.specs.Rows.{Row, row, firstFailed, idleB, tableRows}
+use Rattle.refusals.specs.Outcome.{doneB}
+use Rattle.refusals.specs.Rows.{Row, row, firstFailed, idleB, tableRows}
 use Rattle.access.specs.Request.{reportOpcode, combinedOpcode}
 use Rattle.access.specs.Response.{combinedResponse, codeBytes, countBytes}
 use Rattle.access.specs.declared.codes.Code.the-variants.{Success}
-use Rattle.transfer.specs.Report.{report, withRunning, bytesIn, leftFrom}
+use Rattle.asking.specs.Report.{report, withRunning, bytesIn, leftFrom}
 use Rattle.transfer.specs.declared.notify.Notified.{Notified}
 
 -- row 3: "for a notification, payload size P outside 20 to 244 or output shorter than P"

@@ -1,6 +1,3 @@
 // The transfer of the log: what is asked of the Record Access Control Point, done, and the notifications
 // of a running report.
 pub mod notify;
-pub mod promises;
-pub mod record_access;
-pub mod report;

@@ -11,12 +11,12 @@ use lib.ListN.{length}
 use Rattle.octets.specs.Choice.{pick}
 use Rattle.octets.specs.Numbers.{at}
 use Rattle.clock.specs.declared.state.Clock.{Clock}
-use Rattle.update.specs.Proposal.{updateWriteBytes, proposalAt}
-use Rattle.update.specs.Grounds.{groundsOf}
+use Rattle.judging.specs.Proposal.{updateWriteBytes, proposalAt}
+use Rattle.judging.specs.Grounds.{groundsOf}
 use Rattle.update.specs.Decide.{proposeOpcode, forceOpcode, judged, operandOf, decideOf, TakenFrom}
-use Rattle.update.specs.declared.proposal.Proposal.{Proposal}
+use Rattle.judging.specs.declared.proposal.Proposal.{Proposal}
 use Rattle.update.specs.declared.decide.Decision.the-variants.{Unsupported, WrongLength, Rejected, Taken}
-use Rattle.update.proofs.GroundLaws.{grounds-none}
+use Rattle.judging.proofs.GroundLaws.{grounds-none}
 
 module _ (c : Clock) (w : List ℕ) (forced : Bool) where
   pub operand-short : (length w ≡ updateWriteBytes → ⊥) → operandOf c w forced ≡ WrongLength

@@ -1,6 +1,3 @@
-pub mod ProposalLaws
-pub mod GradeLaws
-pub mod GroundLaws
 pub mod DecideLaws
 pub mod AcceptLaws
 pub mod ResponseLaws

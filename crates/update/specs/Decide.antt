@@ -8,9 +8,9 @@ use lib.ListN.{length}
 use Rattle.octets.specs.Choice.{pick}
 use Rattle.octets.specs.Numbers.{at}
 use Rattle.clock.specs.declared.state.Clock.{Clock}
-use Rattle.update.specs.Proposal.{updateWriteBytes, proposalAt}
-use Rattle.update.specs.Grounds.{groundsOf, InRange}
-use Rattle.update.specs.declared.proposal.Proposal.{Proposal}
+use Rattle.judging.specs.Proposal.{updateWriteBytes, proposalAt}
+use Rattle.judging.specs.Grounds.{groundsOf, InRange}
+use Rattle.judging.specs.declared.proposal.Proposal.{Proposal}
 use Rattle.update.specs.declared.decide.Decision.{Decision}
 use Rattle.update.specs.declared.decide.Decision.the-variants.{Unsupported, WrongLength, Rejected, Taken}
 

@@ -1,8 +1,3 @@
-pub mod Proposal
-pub mod Grades
-pub mod Grounds
 pub mod Decide
 pub mod Accept
 pub mod Response
-pub mod Cases
-pub mod Promises

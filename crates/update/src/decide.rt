@@ -1,9 +1,9 @@
 // What is to happen with a write to the Device Time Control Point (document 01, "Time updates").
-use crate::grounds::grounds;
-use crate::proposal::Proposal;
-use crate::proposal::UPDATE_WRITE_BYTES;
-use crate::proposal::proposal_at;
 use clock::state::Clock;
+use judging::grounds::grounds;
+use judging::proposal::Proposal;
+use judging::proposal::UPDATE_WRITE_BYTES;
+use judging::proposal::proposal_at;
 ghost use mathlib.Core.Path.{_≡_};
 ghost use Prim.Native.Nat.{_≤_};
 ghost use lib.ListN.{length};

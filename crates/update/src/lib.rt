@@ -2,8 +2,4 @@
 // the clock and the record of one that is taken, the response. No buffer is written here.
 pub mod accept;
 pub mod decide;
-pub mod grades;
-pub mod grounds;
-pub mod promises;
-pub mod proposal;
 pub mod response;

@@ -14,6 +14,7 @@ use crate::script::byte_at;
 use crate::script::number_at;
 use crate::script::rest;
 use crate::script::short_at;
+use asking::record_access::record_access;
 use carry::stamp::carry;
 use clock::events::Event;
 use clock::events::disconnect;
@@ -23,19 +24,18 @@ use clock::state::Clock;
 use clock::state::Left;
 use clock::state::Report;
 use clock::state::Running;
+use coding::reading::read;
 use filter::request::Filter;
-use log::sound::sound;
 use octets::parts::put;
-use record::reading::read;
+use refusals::reply::Reply;
 use service::fault::fault;
-use service::reply::Reply;
 use service::start::start;
 use service::time_update::time_update;
+use soundness::sound::sound;
 use tablet::joining::Joining;
 use tablet::joining::join;
 use transfer::notify::Notified;
 use transfer::notify::notify;
-use transfer::record_access::record_access;
 
 // The clock, how many bytes of the buffer are the table, and the joining state.
 pub struct Play {
@@ -245,7 +245,7 @@ fn play_join(s: Play, note: &[u8]) -> Play {
 }
 
 fn tell_read(s: Play, bytes: &[u8]) -> Play {
-    print_plain(record::reading::number_of(read(bytes)));
+    print_plain(coding::reading::number_of(read(bytes)));
     end_line();
     s
 }

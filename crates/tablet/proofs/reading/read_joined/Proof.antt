@@ -4,7 +4,7 @@ use mathlib.Core.Path.{_≡_, sym, ap, _∙_}
 use Prim.Native.Nat.{ℕ}
 use native.Mathlib.Nat.{sub-zero}
 use lib.ListN.{length, take}
-use Rattle.record.specs.WellFormed.{readOf}
+use Rattle.coding.specs.WellFormed.{readOf}
 use Rattle.tablet.specs.Reading.{readJoinedOf}
 use Rattle.tablet.proofs.ReadingLaws.{too-long}
 use borrow.Author.Needs.{needs}

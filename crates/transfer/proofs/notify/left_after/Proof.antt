@@ -1,7 +1,7 @@
 -- By whether the record's bytes are all sent then.
 -- Assumes nothing.
 use mathlib.Core.Path.{refl}
-use Rattle.record.proofs.RoundTrip.{length-bytes}
+use Rattle.coding.proofs.RoundTrip.{length-bytes}
 use Rattle.transfer.proofs.SegmentLaws.{after-last, after-more}
 use borrow.Author.Needs.{needs}
 use native.Mathlib.Omega.{arith}

@@ -5,9 +5,9 @@ use borrow.Author.Tests.{not-true, not-false}
 use lib.ListN.{length}
 use Rattle.clock.specs.declared.answers.Answer.{Answer}
 use Rattle.clock.specs.declared.answers.Answer.the-variants.{NothingRunning}
-use Rattle.service.specs.Outcome.{doneB}
-use Rattle.service.specs.Rows.{thenOf}
-use Rattle.service.proofs.RowLaws.{table-all}
+use Rattle.refusals.specs.Outcome.{doneB}
+use Rattle.refusals.specs.Rows.{thenOf}
+use Rattle.refusals.proofs.RowLaws.{table-all}
 use Rattle.transfer.specs.Notify.{unsaid}
 use Rattle.transfer.proofs.NotifyLaws.{tables, notify-idle, notify-refused, notify-said, Ready, ready}
 use borrow.Author.Needs.{needs}

@@ -4,8 +4,8 @@ use mathlib.Core.Path.{_≡_}
 use mathlib.Core.List.{_∷_}
 use Prim.Native.Nat.{_+_}
 use lib.ListN.{drop}
-use Rattle.log.specs.Table.{held, ageOf}
-use Rattle.transfer.proofs.LeftLaws.{Unsent, left-reads, unsent-of}
+use Rattle.table.specs.Table.{held, ageOf}
+use Rattle.asking.proofs.LeftLaws.{Unsent, left-reads, unsent-of}
 use Rattle.transfer.proofs.NotifyLaws.{said-next}
 use borrow.Author.Needs.{needs}
 use Rattle.transfer.proofs.notify.send.Statement.{statement}

@@ -1,0 +1,2 @@
+pub mod record_access;
+pub mod report;

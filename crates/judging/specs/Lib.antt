@@ -1,0 +1,3 @@
+pub mod Proposal
+pub mod Grades
+pub mod Grounds

@@ -1,0 +1,3 @@
+pub mod grades;
+pub mod grounds;
+pub mod proposal;

@@ -1,0 +1,3 @@
+pub mod ObeyLaws
+pub mod AnswerLaws
+pub mod JoinedLaws

@@ -1,0 +1,212 @@
+-- Each call leaves a clock that obeys its rules with the table: what is left of a report is held, matches and has bytes unsent.
+-- Assumes nothing.
+use mathlib.Core.Path.{_≡_, refl, sym, _∙_, ap}
+use mathlib.Core.Bool.{Bool, true, false}
+use mathlib.Core.List.{List, [], _∷_, map}
+use Prim.Native.Nat.{ℕ, zero, suc, _+_, _-_, _%_, _<_}
+use native.Mathlib.Omega.{arith}
+use borrow.Author.Tests.{leb-false, lt-ltb, le-ltb}
+use lib.Dec.{ltb}
+use lib.ListN.{length, drop}
+use Rattle.octets.specs.Choice.{pick}
+use Rattle.octets.proofs.Tests.{both-yes}
+use Rattle.filter.specs.declared.request.Filter.{Filter}
+use Rattle.record.specs.Fields.{sequenceOf}
+use Rattle.coding.specs.Layout.{bytesOf}
+use Rattle.record.specs.declared.kinds.Record.{Record}
+use Rattle.coding.proofs.RoundTrip.{length-bytes}
+use Rattle.table.specs.Table.{count, first, ageOf, recordIn, soundB}
+use Rattle.table.specs.Table as table
+use Rattle.held.specs.Matching.{matchesAt, nextMatch}
+use Rattle.log.specs.Promises.{rising}
+use Rattle.held.specs.declared.matching.Found.{Found}
+use Rattle.held.specs.declared.matching.Found.the-variants as found
+use Rattle.table.proofs.HeadLaws.{sound-head}
+use Rattle.log.proofs.HistoryLaws.{consecutive}
+use Rattle.held.proofs.LookLaws.{slotAt, drop-held}
+use Rattle.clock.specs.Rules.{opcodeB, filterB, clockB}
+use Rattle.clock.specs.Rules as rules
+use Rattle.clock.specs.declared.state.Clock.{Clock}
+use Rattle.clock.specs.declared.state.Left.{Left}
+use Rattle.clock.specs.declared.state.Left.the-variants.{Nothing, From}
+use Rattle.clock.specs.declared.state.Report.{Report}
+use Rattle.clock.specs.declared.state.Running.{Running}
+use Rattle.clock.specs.declared.state.Running.the-variants.{Idle, Reporting}
+use Rattle.clock.proofs.RuleLaws.{clock-reads, clock-makes, running-reads, running-makes}
+use Rattle.refusals.specs.Outcome.{doneB, answered}
+use Rattle.refusals.specs.Rows.{firstFailed, unsentB, leftB, runningB, wholeB}
+use Rattle.refusals.proofs.RowLaws.{whole-reads, whole-with}
+use Rattle.access.specs.Request.{opcodeIn, requestOf}
+use Rattle.access.specs.declared.request.Request.{Request}
+use Rattle.access.specs.declared.request.Request.the-variants as request
+use Rattle.access.proofs.RequestLaws.{report-reads, asked-for}
+use Rattle.asking.specs.Report.{withRunning, numberIn, bytesIn, leftAt, leftFrom}
+use Rattle.asking.specs.Access.{accessRows, accessed, begunOf, abortedOf, accessedOf, accessOf}
+use Rattle.transfer.specs.Notify.{lastB, leftAfter, notifyRows, saidOf, unsaid, noticed, runningNotice, notifyOf}
+use Rattle.outcomes.specs.OfTransfer.{Obeys}
+use Rattle.asking.proofs.FoundLaws.{next-found}
+use Rattle.asking.proofs.LeftLaws.{Unsent, left-reads}
+use Rattle.asking.proofs.AccessLaws.{access-refused, access-done}
+
+-- the number of the held record of an age, from its rising numbers
+number-drop : (l : List Record) (s k j : ℕ) → map sequenceOf l ≡ rising s k → s < 65536 → j < k → numberIn (drop j l) ≡ (s + j) % 65536
+unfolding numberIn
+number-drop l s zero j e h lt = absurd (omega arith)
+number-drop [] s (suc k) j e h lt = let z : _≡_ {A = ℕ} 0 1 = cc in absurd (omega arith)
+number-drop (r ∷ l) s (suc k) zero e h lt = let z : sequenceOf r ≡ s = cc in omega arith
+number-drop (r ∷ l) s (suc k) (suc j) e h lt =
+    let z : map sequenceOf l ≡ rising ((s + 1) % 65536) k = cc in
+    number-drop l ((s + 1) % 65536) k j z (omega arith) (omega arith) ∙ step s j
+  where
+    step : (a n : ℕ) → ((a + 1) % 65536 + n) % 65536 ≡ (a + suc n) % 65536
+    step a n = omega arith
+
+-- and its number has that age
+age-held : (t : List ℕ) (j : ℕ) → soundB t ≡ true → j < count t → ageOf t (numberIn (drop j (table.held t))) ≡ j
+age-held t j sd h =
+    let d = sound-head t sd in
+    ap (ageOf t) (number-drop (table.held t) (first t) (count t) j (consecutive t sd) (omega arith) h) ∙ back (first t) j (omega arith) (omega arith)
+  where
+    back : (x n : ℕ) → x < 65536 → n < 1024 → ((x + n) % 65536 + 65536 - x) % 65536 ≡ n
+    back x n a b = omega arith
+
+-- a record that is held, matches and has bytes unsent
+pub left-makes : (t : List ℕ) (f : Filter) (n sent : ℕ) → Unsent t f n sent → leftB t f (From n sent) ≡ true
+unfolding leftB
+left-makes t f n sent u = both-yes (lt-ltb (ageOf t n) (count t) (u .held)) ∙ both-yes (u .matches) ∙ u .unsent
+
+some-bytes : (r : Record) → ltb 0 (length (bytesOf r)) ≡ true
+some-bytes r = lt-ltb 0 (length (bytesOf r)) (omega (arith, length-bytes r))
+
+-- the next held record that matches is one
+found-obeys : (f : Filter) (t : List ℕ) (k : ℕ) → soundB t ≡ true → (x : Found) → nextMatch f t k ≡ x → leftB t f (leftAt t x) ≡ true
+unfolding leftAt leftB numberIn matchesAt
+found-obeys f t k sd found.Nothing e = refl
+found-obeys f t k sd (found.At j) e =
+    let x = next-found f t k j e in
+    let a = age-held t j sd (x .held) in
+    let d = drop-held t j (x .held) in
+    left-makes t f (numberIn (drop j (table.held t))) 0 (record {
+      held = rw a (x .held);
+      matches = rw (a, d) (rw d at (x .matches));
+      unsent = rw (a, d) (some-bytes (recordIn (slotAt t j)));
+    })
+
+pub left-from-obeys : (f : Filter) (t : List ℕ) (k : ℕ) → soundB t ≡ true → leftB t f (leftFrom f t k) ≡ true
+unfolding leftFrom
+left-from-obeys f t k sd = found-obeys f t k sd (nextMatch f t k) refl
+
+-- the other bytes of the next record
+unsent-is : (sent : ℕ) (l : List Record) → unsentB sent l ≡ ltb sent (length (bytesIn l))
+unfolding bytesIn
+unsent-is sent [] = sym (le-ltb sent 0 (omega arith))
+unsent-is sent (r ∷ l) = refl
+
+-- the bytes of the record with a number
+abbrev nextBytes : List ℕ → ℕ → List ℕ
+nextBytes t n = bytesIn (drop (ageOf t n) (table.held t))
+
+-- what is left after a segment
+after-obeys : (f : Filter) (t : List ℕ) (q n sent : ℕ) → soundB t ≡ true → Unsent t f n sent
+    → leftB t f (leftAfter f t q n sent (nextBytes t n)) ≡ true
+unfolding leftAfter
+after-obeys f t q n sent sd u = go (lastB q sent (nextBytes t n)) refl
+  where
+    go : (last : Bool) → lastB q sent (nextBytes t n) ≡ last → leftB t f (pick last (leftFrom f t (ageOf t n + 1)) (From n (sent + q))) ≡ true
+    go true e = left-from-obeys f t (ageOf t n + 1) sd
+    go false e =
+        left-makes t f n (sent + q) (record {
+          held = u .held;
+          matches = u .matches;
+          unsent = unsent-is (sent + q) (drop (ageOf t n) (table.held t)) ∙ lt-ltb (sent + q) (length (nextBytes t n)) (leb-false (length (nextBytes t n)) (sent + q) e);
+        })
+
+-- a clock with another report
+running-obeys : (c : Clock) (t : List ℕ) (r : Running) → clockB c ≡ true → rules.runningB r ≡ true → runningB t r ≡ true → wholeB (withRunning c r) t ≡ true
+unfolding withRunning
+running-obeys c t r ok alone with =
+    let k = clock-reads c ok in
+    whole-with (withRunning c r) t (clock-makes (withRunning c r) (record {
+      base-low = k .base-low;
+      base-high = k .base-high;
+      zone = k .zone;
+      dst = k .dst;
+      source = k .source;
+      status = k .status;
+      aligned-low = k .aligned-low;
+      aligned-high = k .aligned-high;
+      running = alone;
+    }))
+    ∙ with
+
+idle-obeys : (c : Clock) (t : List ℕ) → clockB c ≡ true → wholeB (withRunning c Idle) t ≡ true
+unfolding rules.runningB runningB
+idle-obeys c t ok = running-obeys c t Idle ok refl refl
+
+report-obeys : (c : Clock) (t : List ℕ) (r : Report) → clockB c ≡ true → rules.ReportRules r → leftB t (r .filter) (r .left) ≡ true
+    → wholeB (withRunning c (Reporting r)) t ≡ true
+unfolding runningB
+report-obeys c t r ok k l = running-obeys c t (Reporting r) ok (running-makes r k) l
+
+-- notifications
+said-obeys : (c : Clock) (t : List ℕ) (q : ℕ) (r : Report) → soundB t ≡ true → clockB c ≡ true → rules.ReportRules r
+    → (l : Left) → leftB t (r .filter) l ≡ true → wholeB (saidOf c t q r l .clock) t ≡ true
+unfolding saidOf
+said-obeys c t q r sd ok k Nothing h = idle-obeys c t ok
+said-obeys c t q r sd ok k (From n sent) h =
+    report-obeys c t _ ok
+    (record { opcode = k .opcode; filter = k .filter; counter = omega arith })
+    (after-obeys (r .filter) t q n sent sd (left-reads t (r .filter) n sent h))
+
+running-said : (c : Clock) (t : List ℕ) (p : ℕ) (o : List ℕ) → soundB t ≡ true → wholeB c t ≡ true → (r : Running) → c .running ≡ r
+    → wholeB (runningNotice c t p o r .reply .clock) t ≡ true
+unfolding runningNotice noticed runningB
+running-said c t p o sd w Idle e = w
+running-said c t p o sd w (Reporting r) e =
+    let x = whole-reads c t w in
+    said-obeys c t (p - 1) r sd (x .0)
+    (running-reads r (ap rules.runningB (sym e) ∙ clock-reads c (x .0) .running))
+    (r .left)
+    (ap (runningB t) (sym e) ∙ x .1)
+
+notify-obeys : (c : Clock) (t : List ℕ) (p : ℕ) (o : List ℕ) → soundB t ≡ true → wholeB c t ≡ true → wholeB (notifyOf c t p o .reply .clock) t ≡ true
+unfolding notifyOf
+notify-obeys c t p o sd w = go (doneB (firstFailed (notifyRows c t p o)))
+  where
+    go : (b : Bool) → wholeB (pick b (runningNotice c t p o (c .running)) (unsaid (firstFailed (notifyRows c t p o)) c o) .reply .clock) t ≡ true
+    go true = running-said c t p o sd w (c .running) refl
+    go false = w
+
+-- record access
+begun-obeys : (c : Clock) (t : List ℕ) (opcode : ℕ) (f : Filter) → wholeB c t ≡ true → opcodeB opcode ≡ true → filterB f ≡ true
+    → (l : Left) → leftB t f l ≡ true → wholeB (begunOf c opcode f l .clock) t ≡ true
+unfolding begunOf accessed
+begun-obeys c t opcode f w ho hf Nothing h = w
+begun-obeys c t opcode f w ho hf (From n sent) h =
+    report-obeys c t _ (whole-reads c t w .0) (record { opcode = ho; filter = hf; counter = omega arith }) h
+
+aborted-obeys : (c : Clock) (t : List ℕ) → wholeB c t ≡ true → (r : Running) → wholeB (abortedOf c r .clock) t ≡ true
+unfolding abortedOf accessed
+aborted-obeys c t w Idle = w
+aborted-obeys c t w (Reporting r) = idle-obeys c t (whole-reads c t w .0)
+
+accessed-obeys : (c : Clock) (t w : List ℕ) → soundB t ≡ true → wholeB c t ≡ true → (r : Request) → requestOf w ≡ r
+    → wholeB (accessedOf c t (opcodeIn w) r .clock) t ≡ true
+unfolding accessedOf accessed
+accessed-obeys c t w sd h (request.Report f) e =
+    let x = report-reads w f e in
+    begun-obeys c t (opcodeIn w) f h (x .0) (asked-for w f (x .1)) (leftFrom f t 0) (left-from-obeys f t 0 sd)
+accessed-obeys c t w sd h (request.Number f) e = h
+accessed-obeys c t w sd h request.Abort e = aborted-obeys c t h (c .running)
+accessed-obeys c t w sd h (request.Refused k) e = h
+
+access-obeys : (c : Clock) (t w o : List ℕ) → soundB t ≡ true → wholeB c t ≡ true → wholeB (accessOf c t w o .reply .clock) t ≡ true
+unfolding answered
+access-obeys c t w o sd h = go (doneB (firstFailed (accessRows c t w o))) refl
+  where
+    go : (b : Bool) → doneB (firstFailed (accessRows c t w o)) ≡ b → wholeB (accessOf c t w o .reply .clock) t ≡ true
+    go true e = rw (access-done c t w o e) (accessed-obeys c t w sd h (requestOf w) refl)
+    go false e = rw (access-refused c t w o e) h
+
+pub obeys : Obeys
+obeys = record { notify = notify-obeys; record-access = access-obeys }

@@ -1,0 +1,53 @@
+-- What is promised of joining and reading beyond each call's own equation.
+use mathlib.Core.Path.{_≡_}
+use mathlib.Core.Bool.{true, false}
+use mathlib.Core.List.{List, [], _++_}
+use Prim.Native.Nat.{ℕ, _<_}
+use lib.ListN.{length}
+use Rattle.octets.specs.Choice.{pick}
+use Rattle.record.specs.declared.kinds.Reading.{Reading}
+use Rattle.tablet.specs.Joining.{empty, inside, mostBytes, emptyJoining, rangesB, insideB, firstBit, counterIn, body, lenAfter, takesB, joined, joinOf, numberOf, recordIn, Takes}
+use Rattle.tablet.specs.Reading.{readJoinedOf}
+use Rattle.tablet.specs.declared.joining.Answer.{Answer}
+use Rattle.tablet.specs.declared.joining.Answer.the-variants.{Refused}
+use Rattle.tablet.specs.declared.joining.Joining.{Joining}
+use Rattle.tablet.specs.declared.joining.Joined.{Joined}
+
+-- Two outcomes that meet a call's promise are one outcome.
+pub record OneOutcome : Type 0 where
+  pub restart : (x y : Joining) → x ≡ emptyJoining → y ≡ emptyJoining → x ≡ y
+  pub join : (j : Joining) (n : List ℕ) (x y : Joined) → x ≡ joinOf j n → y ≡ joinOf j n → x ≡ y
+  pub number-of : (a : Answer) (x y : ℕ) → x ≡ numberOf a → y ≡ numberOf a → x ≡ y
+  pub read-joined : (j : Joining) (x y : Reading) → x ≡ readJoinedOf j → y ≡ readJoinedOf j → x ≡ y
+
+-- "10 empties the joining state": the number is 10 exactly where the notification is not taken, and nothing is left then.
+pub record RefusedEmpties : Type 0 where
+  pub number : (j : Joining) (n : List ℕ) → numberOf (joinOf j n .answer) ≡ pick (takesB j n) 0 10
+  pub empties : (j : Joining) (n : List ℕ) → joinOf j n .answer ≡ Refused → joinOf j n .joining ≡ emptyJoining
+
+abbrev pub RefusedAt : Joining → List ℕ → Type 0
+RefusedAt j n = joinOf j n ≡ joined Refused emptyJoining
+
+-- "Joining refuses an empty notification, an empty body, a counter that doesn't follow, a first bit inside a record, a missing first
+-- bit at its start, over 45 bytes, or a joining state outside its own ranges", and nothing else.
+pub record Refuses : Type 0 where
+  pub no-bytes : (j : Joining) (n : List ℕ) → length n ≡ 0 → RefusedAt j n
+  pub no-body : (j : Joining) (n : List ℕ) → length n ≡ 1 → RefusedAt j n
+  pub counter : (j : Joining) (n : List ℕ) → (j .phase ≡ empty → ⊥) → (counterIn n ≡ j .counter → ⊥) → RefusedAt j n
+  pub first-inside : (j : Joining) (n : List ℕ) → j .phase ≡ inside → firstBit n ≡ 1 → RefusedAt j n
+  pub first-missing : (j : Joining) (n : List ℕ) → (j .phase ≡ inside → ⊥) → firstBit n ≡ 0 → RefusedAt j n
+  pub too-long : (j : Joining) (n : List ℕ) → mostBytes < lenAfter j n → RefusedAt j n
+  pub ranges : (j : Joining) (n : List ℕ) → rangesB j ≡ false → RefusedAt j n
+  pub nothing-else : (j : Joining) (n : List ℕ) → Takes j n → numberOf (joinOf j n .answer) ≡ 0
+
+-- Whatever came, the state after is within its ranges.
+pub record KeepsRanges : Type 0 where
+  pub restart : rangesB emptyJoining ≡ true
+  pub join : (j : Joining) (n : List ℕ) → rangesB (joinOf j n .joining) ≡ true
+  pub bytes : (j : Joining) (n : List ℕ) → length (j .bytes) ≡ mostBytes → length (joinOf j n .joining .bytes) ≡ mostBytes
+
+-- "The record builds up in that state": the bytes so far inside a record, none at its start, and the body after them.
+abbrev pub BuildsUp : Type 0
+BuildsUp =
+    (j : Joining) (n : List ℕ) → length (j .bytes) ≡ mostBytes → Takes j n
+    → recordIn (joinOf j n .joining) ≡ pick (insideB j) (recordIn j) [] ++ body n

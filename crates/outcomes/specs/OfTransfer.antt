@@ -1,0 +1,80 @@
+-- What is promised of record access and notifications beyond each call's own equation.
+use mathlib.Core.Path.{_≡_}
+use mathlib.Core.Bool.{Bool, true, false, not}
+use mathlib.Core.List.{List, [], _∷_}
+use Prim.Native.Nat.{ℕ}
+use lib.Dec.{eqb}
+use lib.ListN.{length}
+use Rattle.octets.specs.Choice.{both, pick}
+use Rattle.octets.specs.Numbers.{at}
+use Rattle.filter.specs.declared.request.Filter.{Filter}
+use Rattle.record.specs.declared.kinds.Record.{Record}
+use Rattle.table.specs.Table.{soundB}
+use Rattle.held.specs.Matching.{matching}
+use Rattle.clock.specs.declared.state.Clock.{Clock}
+use Rattle.clock.specs.declared.state.Left.the-variants.{From}
+use Rattle.clock.specs.declared.state.Running.the-variants.{Reporting}
+use Rattle.refusals.specs.Outcome.{Outcome, doneB, answered}
+use Rattle.refusals.specs.Rows.{firstFailed, wholeB}
+use Rattle.service.specs.Promises.{Untouched}
+use Rattle.access.specs.Codes.{codeOf}
+use Rattle.access.specs.Request.{opcodeIn, requestOf}
+use Rattle.access.specs.Response.{numberResponse, codeResponse, codeBytes, countBytes}
+use Rattle.access.specs.declared.codes.Code.the-variants.{NoRecordsFound}
+use Rattle.access.specs.declared.request.Request.{Request}
+use Rattle.access.specs.declared.request.Request.the-variants.{Report, Number, Abort, Refused}
+use Rattle.asking.specs.Report.{report, withRunning, numberIn, noneB}
+use Rattle.asking.specs.Access.{accessRows, accessOf}
+use Rattle.transfer.specs.Notify.{Notice, unsaid, notifyOf}
+
+-- Two outcomes that meet a call's promise are one outcome.
+pub record OneOutcome : Type 0 where
+  pub notify : (c : Clock) (t : List ℕ) (p : ℕ) (o : List ℕ) (x y : Notice) → x ≡ notifyOf c t p o → y ≡ notifyOf c t p o → x ≡ y
+  pub record-access : (c : Clock) (t w o : List ℕ) (x y : Outcome) → x ≡ accessOf c t w o → y ≡ accessOf c t w o → x ≡ y
+
+-- "A refusal leaves state, log and output untouched", and it closes nothing.
+abbrev pub Silent : Clock → List ℕ → Notice → Type 0
+Silent c o n = doneB (n .reply .answer) ≡ false → n ≡ unsaid (n .reply .answer) c o
+
+pub record RefusedUnchanged : Type 0 where
+  pub notify : (c : Clock) (t : List ℕ) (p : ℕ) (o : List ℕ) → Silent c o (notifyOf c t p o)
+  pub record-access : (c : Clock) (t w o : List ℕ) → Untouched c t o (accessOf c t w o)
+
+-- the write is read: none of the rows failed
+abbrev pub Read : Clock → List ℕ → List ℕ → List ℕ → Type 0
+Read c t w o = doneB (firstFailed (accessRows c t w o)) ≡ true
+
+-- answered 06 00, an opcode, 06
+abbrev pub nothingFoundB : Outcome → Bool
+nothingFoundB u =
+    both (eqb (u .reply .len) 4) (both (eqb (at (u .output) 0) codeResponse) (eqb (at (u .output) 3) (codeOf NoRecordsFound)))
+
+-- is it a report of which nothing matches?
+abbrev pub nothingB : List ℕ → Request → Bool
+nothingB t (Report f) = noneB (matching f t)
+nothingB t (Number f) = false
+nothingB t Abort = false
+nothingB t (Refused k) = false
+
+-- "An accepted 1 or 7 is a 0 without response bytes", exactly when a record matches; it begins with the first of them, of which no byte is
+-- sent. "Nothing matching: .. 1 and 7 answer 0x06, and give it in no other case."
+pub record AcceptedWhenMatching : Type 0 where
+  pub report : (c : Clock) (t w o : List ℕ) (f : Filter) → Read c t w o → requestOf w ≡ Report f
+      → accessOf c t w o
+      ≡ pick (noneB (matching f t))
+      (answered c t (codeBytes (opcodeIn w) NoRecordsFound) o)
+      (answered (withRunning c (Reporting (report (opcodeIn w) f 0 (From (numberIn (matching f t)) 0)))) t [] o)
+  pub accepted : (c : Clock) (t w o : List ℕ) (f : Filter) → Read c t w o → requestOf w ≡ Report f
+      → eqb (accessOf c t w o .reply .len) 0 ≡ not (noneB (matching f t))
+  pub no-other : (c : Clock) (t w o : List ℕ) → Read c t w o → nothingFoundB (accessOf c t w o) ≡ nothingB t (requestOf w)
+
+-- Number answers 05 00 and how many of the held records match.
+abbrev pub NumberCounts : Type 0
+NumberCounts = (c : Clock) (t w o : List ℕ) (f : Filter) → Read c t w o → requestOf w ≡ Number f
+    → accessOf c t w o ≡ answered c t (countBytes numberResponse (length (matching f t))) o
+
+-- The clock obeys its rules, alone and with the table, after each call where it did before: row 2 never ends a report.
+pub record Obeys : Type 0 where
+  pub notify : (c : Clock) (t : List ℕ) (p : ℕ) (o : List ℕ) → soundB t ≡ true → wholeB c t ≡ true
+      → wholeB (notifyOf c t p o .reply .clock) t ≡ true
+  pub record-access : (c : Clock) (t w o : List ℕ) → soundB t ≡ true → wholeB c t ≡ true → wholeB (accessOf c t w o .reply .clock) t ≡ true

@@ -1,0 +1,28 @@
+// What is promised of joining and reading beyond each call's own equation: each the promise of an empty
+// function, so that the check asks for its proof.
+ghost use Rattle.outcomes.specs.OfTablet.{OneOutcome, RefusedEmpties, Refuses, KeepsRanges, BuildsUp};
+ghost use Rattle.outcomes.specs.TabletCases.{Computed};
+
+pub fn one_outcome()
+    ensures { λ _. ⌜ OneOutcome ⌝ }
+{}
+
+pub fn refused_empties()
+    ensures { λ _. ⌜ RefusedEmpties ⌝ }
+{}
+
+pub fn refuses()
+    ensures { λ _. ⌜ Refuses ⌝ }
+{}
+
+pub fn keeps_ranges()
+    ensures { λ _. ⌜ KeepsRanges ⌝ }
+{}
+
+pub fn builds_up()
+    ensures { λ _. ⌜ BuildsUp ⌝ }
+{}
+
+pub fn computed()
+    ensures { λ _. ⌜ Computed ⌝ }
+{}

@@ -1,0 +1,2 @@
+pub mod reply;
+pub mod rows;
