@@ -29,8 +29,8 @@ use Rattle.table.proofs.HeadLaws.{sound-head}
 use Rattle.log.proofs.HistoryLaws.{length-held}
 use Rattle.held.proofs.LookLaws.{none-left}
 use Rattle.held.proofs.KindLaws.{held-rules}
-use Rattle.carry.specs.Carry.{laterOf, fits64, movedBy, carriedOver, carriedFrom, carryOf, numberOf}
-use Rattle.carry.specs.Promises.{anyFault, Answers, NeverPastRange, Unchanged}
+use Rattle.carry.specs.Carry.{laterOf, fits64, movedBy, carriedOver, carriedFrom, carryOf, numberOf, noFaultB}
+use Rattle.carry.specs.Promises.{Answers, NeverPastRange, Unchanged}
 use Rattle.carry.specs.declared.stamp.Carried.{Carried}
 use Rattle.carry.specs.declared.stamp.Carried.the-variants.{To, TableNotSound, NotHeld, FaultAmong}
 use Rattle.carry.proofs.IntLaws.{mag-difference, mag-sum}
@@ -90,8 +90,8 @@ abbrev AllRight : List Record → Type 0
 AllRight l = (k : ℕ) (r : Record) (rest : List Record) → drop k l ≡ r ∷ rest → recordB r ≡ true
 
 -- so at most 1,023 of them never take it out of signed 64 bits
-over-answers : (l : List Record) (n : ℕ) (z : ℤ) → AllRight l → n + length l ≤ 1023 → Within n z → numberOf (carriedOver z l) ≡ pick (anyFault l) 13 0
-unfolding carriedOver movedBy numberOf anyFault
+over-answers : (l : List Record) (n : ℕ) (z : ℤ) → AllRight l → n + length l ≤ 1023 → Within n z → numberOf (carriedOver z l) ≡ pick (noFaultB l) 0 13
+unfolding carriedOver movedBy numberOf noFaultB
 over-answers [] n z right h w = ap numberOf (over-done z [] refl (omega arith))
 over-answers (TimeUpdate u ∷ l) n z right h w =
     let d = moved-small (TimeUpdate u) (right 0 (TimeUpdate u) l refl) in
@@ -136,7 +136,7 @@ answers stamp q t h = go (soundB t) (leb (laterOf (next t) q) (count t)) refl re
     right n sd k r rest e = held-rules t (n + k) r rest sd (sym (drop-drop k n (held t)) ∙ e)
 
     go : (a b : Bool) → soundB t ≡ a → leb (laterOf (next t) q) (count t) ≡ b
-        → numberOf (carryOf stamp q t) ≡ pick a (pick b (pick (anyFault (newest (laterOf (next t) q) (held t))) 13 0) 12) 1
+        → numberOf (carryOf stamp q t) ≡ pick a (pick b (pick (noFaultB (newest (laterOf (next t) q) (held t))) 0 13) 12) 1
     go false b sd m = ap numberOf (carry-unsound stamp q t sd)
     go true false sd m = ap numberOf (carry-not-held stamp q t sd (leb-false _ _ m))
     go true true sd m =
@@ -149,7 +149,7 @@ answers stamp q t h = go (soundB t) (leb (laterOf (next t) q) (count t)) refl re
         ∙ over-answers (drop n (held t)) 0 (pos stamp) (right n sd) (omega arith) (omega arith)
 
 -- none of these numbers is 14
-below-14 : (a b d : Bool) → pick a (pick b (pick d 13 0) 12) 1 < 14
+below-14 : (a b d : Bool) → pick a (pick b (pick d 0 13) 12) 1 < 14
 below-14 true true true = omega arith
 below-14 true true false = omega arith
 below-14 true false d = omega arith
@@ -160,7 +160,7 @@ unfolding numberOf
 never-past-range stamp q t h e =
     let m = laterOf (next t) q in
     let n = ap numberOf e in
-    absurd (omega (arith, answers stamp q t h, below-14 (soundB t) (leb m (count t)) (anyFault (newest m (held t)))))
+    absurd (omega (arith, answers stamp q t h, below-14 (soundB t) (leb m (count t)) (noFaultB (newest m (held t)))))
 
 pub unchanged : Unchanged
 unfolding laterOf

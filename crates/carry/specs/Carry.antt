@@ -1,5 +1,5 @@
 -- Document 01, "Carrying a stamp": "Given a stamp (unsigned 32 bits), its next sequence number q and a table".
-use mathlib.Core.Bool.{Bool}
+use mathlib.Core.Bool.{Bool, true, false}
 use mathlib.Core.List.{List, [], _∷_}
 use Prim.Native.Nat.{ℕ, _+_, _-_, _%_}
 use lib.Dec.{leb, ltb}
@@ -27,10 +27,16 @@ unfoldable pub movedBy : Record → ℤ
 movedBy (TimeUpdate u) = pos (u .base) -ℤ pos (u .oldbase)
 movedBy (TimeFault f) = pos 0
 
+-- is none of the records a Time_Fault?
+unfoldable pub noFaultB : List Record → Bool
+noFaultB [] = true
+noFaultB (TimeUpdate u ∷ l) = noFaultB l
+noFaultB (TimeFault f ∷ l) = false
+
 -- "each Time_Update adds received minus old; any other type adds nothing by itself, and a Time_Fault gives 13. The result is signed."
 unfoldable pub carriedOver : ℤ → List Record → Carried
 carriedOver z [] = pick (fits64 z) (To z) PastRange
-carriedOver z (TimeUpdate u ∷ l) = carriedOver (z +ℤ (pos (u .base) -ℤ pos (u .oldbase))) l
+carriedOver z (TimeUpdate u ∷ l) = carriedOver (z +ℤ movedBy (TimeUpdate u)) l
 carriedOver z (TimeFault f ∷ l) = FaultAmong
 
 -- what a table means to carrying: its held records, oldest first, and its next number; "If m exceeds H, 12. Over the m newest records .."

@@ -1,16 +1,14 @@
 -- What is promised of carrying beyond each call's own equation.
 use mathlib.Core.Path.{_≡_}
-use mathlib.Core.Bool.{Bool, true, false}
-use mathlib.Core.List.{List, [], _∷_}
+use mathlib.Core.Bool.{true}
+use mathlib.Core.List.{List}
 use Prim.Native.Nat.{ℕ, _<_}
 use lib.Dec.{leb}
 use lib.IntN.{pos}
 use Rattle.octets.specs.Choice.{pick}
-use Rattle.record.specs.declared.kinds.Record.{Record}
-use Rattle.record.specs.declared.kinds.Record.the-variants.{TimeUpdate, TimeFault}
 use Rattle.table.specs.Table.{count, next, held, soundB}
 use Rattle.log.specs.Writing.{newest}
-use Rattle.carry.specs.Carry.{laterOf, carryOf, numberOf}
+use Rattle.carry.specs.Carry.{laterOf, noFaultB, carryOf, numberOf}
 use Rattle.carry.specs.declared.stamp.Carried.{Carried}
 use Rattle.carry.specs.declared.stamp.Carried.the-variants.{To, PastRange}
 
@@ -19,18 +17,12 @@ pub record OneOutcome : Type 0 where
   pub carry : (stamp q : ℕ) (t : List ℕ) (x y : Carried) → x ≡ carryOf stamp q t → y ≡ carryOf stamp q t → x ≡ y
   pub number-of : (c : Carried) (x y : ℕ) → x ≡ numberOf c → y ≡ numberOf c → x ≡ y
 
--- is a Time_Fault among the records?
-unfoldable pub anyFault : List Record → Bool
-anyFault [] = false
-anyFault (TimeUpdate u ∷ l) = anyFault l
-anyFault (TimeFault f ∷ l) = true
-
 -- Carrying refuses with 1 exactly where the table isn't sound, else with 12 exactly where m exceeds H, else with 13 exactly where a Time_Fault is
 -- among the m newest records.
 abbrev pub Answers : Type 0
 Answers = (stamp q : ℕ) (t : List ℕ) → stamp < 4294967296
     → let m = laterOf (next t) q in
-    numberOf (carryOf stamp q t) ≡ pick (soundB t) (pick (leb m (count t)) (pick (anyFault (newest m (held t))) 13 0) 12) 1
+    numberOf (carryOf stamp q t) ≡ pick (soundB t) (pick (leb m (count t)) (pick (noFaultB (newest m (held t))) 0 13) 12) 1
 
 -- Row 14 is never met: a sound table holds at most 1,023 records, each of which moves a stamp by less than 2^32.
 abbrev pub NeverPastRange : Type 0

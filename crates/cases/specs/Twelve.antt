@@ -18,7 +18,7 @@ use Rattle.update.specs.Decide.{proposeOpcode, forceOpcode}
 use Rattle.judging.specs.Grounds.{unrealistic, outOfRange}
 use Rattle.refusals.specs.Outcome.{Outcome}
 use Rattle.service.specs.Promises.{World}
-use Rattle.carry.specs.Carry.{laterOf, carriedOver, carriedFrom, carryOf}
+use Rattle.carry.specs.Carry.{laterOf, movedBy, carriedOver, carriedFrom, carryOf}
 use Rattle.carry.specs.declared.stamp.Carried.{Carried}
 use Rattle.carry.specs.declared.stamp.Carried.the-variants.{To, TableNotSound, NotHeld, FaultAmong, PastRange}
 use Rattle.promises.specs.World.{left}
@@ -119,7 +119,7 @@ unfolding update noted tick
 setBack = left (update (later noted 50) (propose 800000070))
 
 unfoldable pub carried : ℕ → ℕ → World → Carried
-unfolding update carryOf carriedFrom carriedOver laterOf
+unfolding update carryOf carriedFrom carriedOver movedBy laterOf
 carried stamp q v = carryOf stamp q (v .table)
 
 -- the seconds since a carried stamp, by the clock

@@ -1,2 +1,3 @@
 pub mod reply;
 pub mod rows;
+mod whole;

@@ -1,58 +1,16 @@
 // The rows of document 01, "Refusal numbers, tested in this order", that calls with a table share. `pub`
-// for the calls of the crate `transfer`.
+// for the calls of the layers above.
 use crate::reply::done;
+use crate::whole::running_ok;
 use clock::answers::Answer;
 use clock::obeys::clock_ok;
 use clock::state::Clock;
-use clock::state::Left;
 use clock::state::Running;
-use coding::writing::length_of;
-use filter::request::Filter;
-use filter::request::matches;
-use held::look::age_of;
-use held::look::held_count;
-use held::look::record_at;
-use octets::choice::both;
 use soundness::sound::sound;
 ghost use mathlib.Core.Path.{_≡_};
-ghost use mathlib.Core.Bool.{true};
-ghost use Rattle.table.specs.Table.{soundB};
-ghost use Rattle.refusals.specs.Rows.{leftB, runningB, idleB, firstFailed, thenOf, tableRows, writeRows};
+ghost use Rattle.refusals.specs.Rows.{idleB, firstFailed, thenOf, tableRows, writeRows};
 
-// The next record "is held, matches and has bytes unsent".
-fn left_ok(t: &[u8], f: Filter, left: Left) -> bool
-    requires { ⌜ soundB (now t) ≡ true ⌝ }
-    ensures { λ r. ⌜ r ≡ leftB (now (t .entry)) f left ⌝ }
-{
-    match left {
-        Left::Nothing => true,
-        Left::From(number, sent) => {
-            let age = age_of(t, number);
-            let among = held_count(t);
-            if among <= age {
-                return false;
-            }
-            let unsent = (sent as usize) < length_of(record_at(t, age));
-            both(matches(f, among, age, number), unsent)
-        }
-    }
-}
-
-// The running report's part of row 2 that needs the table.
-fn running_ok(t: &[u8], running: Running) -> bool
-    requires { ⌜ soundB (now t) ≡ true ⌝ }
-    ensures { λ r. ⌜ r ≡ runningB (now (t .entry)) running ⌝ }
-{
-    match running {
-        Running::Idle => true,
-        Running::Reporting(report) => {
-            let f = report.filter;
-            let left = report.left;
-            left_ok(t, f, left)
-        }
-    }
-}
-
+// Is no report running?
 pub fn idle(running: Running) -> bool
     ensures { λ r. ⌜ r ≡ idleB running ⌝ }
 {

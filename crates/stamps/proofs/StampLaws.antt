@@ -22,10 +22,10 @@ use Rattle.log.proofs.StartLaws.{starts}
 use Rattle.clock.proofs.RuleLaws.{clock-reads}
 use Rattle.service.specs.Promises.{World, started, Good}
 use Rattle.service.proofs.ReachLaws.{started-good}
-use Rattle.carry.specs.Carry.{laterOf, carriedOver, carriedFrom, carryOf, numberOf}
+use Rattle.carry.specs.Carry.{laterOf, movedBy, carriedOver, carriedFrom, carryOf, numberOf, noFaultB}
 use Rattle.carry.specs.declared.stamp.Carried.the-variants.{To, NotHeld, FaultAmong}
 use Rattle.promises.specs.World.{Call, runOf}
-use Rattle.stamps.specs.Stamps.{ranOf, loggedOf, noFaultB, allHeldB, HoldsLogged, Carries, CarriedStamp}
+use Rattle.stamps.specs.Stamps.{ranOf, loggedOf, allHeldB, HoldsLogged, Carries, CarriedStamp}
 use Rattle.stamps.proofs.Differences.{diff-add, diff-is, diff-fits}
 use Rattle.promises.proofs.ReachLaws.{reachable}
 use Rattle.stamps.proofs.WentLaws.{news, olds, Went, went-run}
@@ -51,7 +51,7 @@ later-is q k n hq hk e = ap (λ (x : ℕ). (x + 65536 - q) % 65536) e ∙ go q k
 -- the sum over records without a fault, and with one
 over-sums : (l : List Record) (a b : ℕ) → noFaultB l ≡ true → a + news l < 9223372036854775808 → b + olds l < 9223372036854775808
     → carriedOver (pos a -ℤ pos b) l ≡ To (pos (a + news l) -ℤ pos (b + olds l))
-unfolding carriedOver noFaultB news olds
+unfolding carriedOver movedBy noFaultB news olds
 over-sums [] a b h ha hb =
     let x : a + 0 ≡ a = omega arith in
     let y : b + 0 ≡ b = omega arith in

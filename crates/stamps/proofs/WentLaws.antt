@@ -34,7 +34,8 @@ use Rattle.service.proofs.PromiseLaws.{logged, refused-unchanged}
 use Rattle.service.proofs.ReachLaws.{fault-loggable}
 use Rattle.asking.specs.Report.{withRunning}
 use Rattle.promises.specs.World.{Call, seconds, switches, disconnect, fault, timeUpdate, recordAccess, notify, left, stepBy, stepOf, runOf}
-use Rattle.stamps.specs.Stamps.{ranIn, ranOf, loggedIn, loggedOf, noFaultB}
+use Rattle.carry.specs.Carry.{noFaultB}
+use Rattle.stamps.specs.Stamps.{ranIn, ranOf, loggedIn, loggedOf}
 use Rattle.promises.proofs.ReachLaws.{Turned, same, turns, access-turned, notify-turned, call-good}
 
 -- the times of a Time_Update: received, and just before

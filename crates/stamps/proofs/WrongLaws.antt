@@ -24,11 +24,11 @@ use Rattle.refusals.specs.Rows.{wholeB}
 use Rattle.service.proofs.FaultLaws.{fault-done}
 use Rattle.service.proofs.ReachLaws.{started-good}
 use Rattle.refusals.proofs.RowLaws.{table-0}
-use Rattle.carry.specs.Carry.{laterOf, carriedOver, carriedFrom, carryOf, numberOf}
+use Rattle.carry.specs.Carry.{laterOf, carriedOver, carriedFrom, carryOf, numberOf, noFaultB}
 use Rattle.carry.specs.declared.stamp.Carried.{Carried}
 use Rattle.carry.specs.declared.stamp.Carried.the-variants.{To, TableNotSound, NotHeld, FaultAmong, PastRange}
 use Rattle.promises.specs.World.{Call, seconds, fault, stepOf, runOf}
-use Rattle.stamps.specs.Stamps.{loggedIn, loggedOf, noFaultB, Carrying, carriedAfter, allHeldB, Carries, CarriedBelow, CarriedStamp}
+use Rattle.stamps.specs.Stamps.{loggedIn, loggedOf, Carrying, carriedAfter, allHeldB, Carries, CarriedBelow, CarriedStamp}
 use Rattle.stamps.specs.Cases.{resultOf, buffer, output, set, on}
 use Rattle.stamps.specs.Wrong as wrong
 use Rattle.stamps.specs.Wrong.{carryBy, ShutOut}

@@ -41,11 +41,11 @@ use Rattle.asking.specs.Report.{withRunning, numberIn, leftAt, leftFrom}
 use Rattle.asking.specs.Report as reports
 use Rattle.asking.specs.Access.{accessRows, accessed, begunOf, abortedOf, accessedOf, accessOf}
 use Rattle.transfer.specs.Notify.{roomB, notifyRows, headerOf, segmentOf, leftAfter, closingOf, saidOf, noticed, runningNotice, notifyOf}
-use Rattle.carry.specs.Carry.{laterOf, carriedOver, carriedFrom, carryOf}
+use Rattle.carry.specs.Carry.{laterOf, carriedOver, carriedFrom, carryOf, noFaultB, movedBy}
 use Rattle.carry.specs.declared.stamp.Carried.{Carried}
 use Rattle.carry.specs.declared.stamp.Carried.the-variants.{To, NotHeld, FaultAmong}
 use Rattle.promises.specs.World.{Call, seconds, switches, fault, timeUpdate, recordAccess, notify, stepBy, runOf}
-use Rattle.stamps.specs.Stamps.{ranIn, ranOf, loggedIn, loggedOf, noFaultB, carriedAfter, allHeldB}
+use Rattle.stamps.specs.Stamps.{ranIn, ranOf, loggedIn, loggedOf, carriedAfter, allHeldB}
 
 -- the stamp and its number, how many records came after it, the theorem's two tests, what carrying gives; the clock then, and the seconds
 -- that ran
@@ -67,7 +67,7 @@ abbrev pub output : List ℕ
 output = replicate 244 0
 
 unfoldable pub resultOf : List ℕ → List Call → List Call → Result
-unfolding newReader fresh accessRows accessed begunOf abortedOf accessedOf accessOf operandBytes typedB filterAt request.operandOf askedOf abortOf requestOf codeOf codeBytes countBytes firstFailed leftB wholeB tableRows writeRows rows.runningB clocks.runningB doneB answered numberOf opcodeB filterB counterB reportB clockB baseB zoneB dstB sourceB statusB bitsB soundB headB sizeB startB emptyB fieldsB zerosB slot bytesIn recordIn slots ring held slotB rowB wellFormedB shapeB sizedB recordB updateB faultB recordOf updateAt faultAt sequenceOf matchesB firstFrom nextMatch matchingFrom matching withRunning numberIn reports.bytesIn leftAt leftFrom bytesOf updateBytes faultBytes over roomB notifyRows headerOf segmentOf leftAfter closingOf saidOf noticed runningNotice notifyOf unlessBroken withBase withSwitches secondsOf switchesOf faultOf faultedOf countAfter faultRecord endingOf appendOf steps placeOf slotOf headerAfter updateRows tableAfter settledOf effectOf updateOf statusAfter alignedAfter accuracyOf acceptedOf loggedB updateRecord judged decide.operandOf decideOf clockGrade localB gradeOf epochB rangeB lowerB secondsApart unrealisticB flagIf groundsOf proposalAt responseBytes laterOf carriedOver carriedFrom carryOf stepBy runOf ranIn ranOf loggedIn loggedOf noFaultB
+unfolding newReader fresh accessRows accessed begunOf abortedOf accessedOf accessOf operandBytes typedB filterAt request.operandOf askedOf abortOf requestOf codeOf codeBytes countBytes firstFailed leftB wholeB tableRows writeRows rows.runningB clocks.runningB doneB answered numberOf opcodeB filterB counterB reportB clockB baseB zoneB dstB sourceB statusB bitsB soundB headB sizeB startB emptyB fieldsB zerosB slot bytesIn recordIn slots ring held slotB rowB wellFormedB shapeB sizedB recordB updateB faultB recordOf updateAt faultAt sequenceOf matchesB firstFrom nextMatch matchingFrom matching withRunning numberIn reports.bytesIn leftAt leftFrom bytesOf updateBytes faultBytes over roomB notifyRows headerOf segmentOf leftAfter closingOf saidOf noticed runningNotice notifyOf unlessBroken withBase withSwitches secondsOf switchesOf faultOf faultedOf countAfter faultRecord endingOf appendOf steps placeOf slotOf headerAfter updateRows tableAfter settledOf effectOf updateOf statusAfter alignedAfter accuracyOf acceptedOf loggedB updateRecord judged decide.operandOf decideOf clockGrade localB gradeOf epochB rangeB lowerB secondsApart unrealisticB flagIf groundsOf proposalAt responseBytes laterOf movedBy carriedOver carriedFrom carryOf stepBy runOf ranIn ranOf loggedIn loggedOf noFaultB
 resultOf t before after =
     let v = runOf (started t) before in
     record {

@@ -18,7 +18,7 @@ use Rattle.service.specs.Fault.{faultRecord, faultOf}
 use Rattle.refusals.specs.Outcome.{doneB}
 use Rattle.service.specs.Promises.{World, successB, started}
 use Rattle.service.specs.Update.{updateOf}
-use Rattle.carry.specs.Carry.{numberOf}
+use Rattle.carry.specs.Carry.{numberOf, noFaultB}
 use Rattle.carry.specs.declared.stamp.Carried.{Carried}
 use Rattle.carry.specs.declared.stamp.Carried.the-variants.{To, NotHeld, FaultAmong}
 use Rattle.promises.specs.World.{Call, seconds, switches, disconnect, fault, timeUpdate, recordAccess, notify, stepOf, runOf}
@@ -53,12 +53,6 @@ loggedIn v (notify p o) = []
 unfoldable pub loggedOf : World → List Call → List Record
 loggedOf v [] = []
 loggedOf v (k ∷ ks) = loggedIn v k ++ loggedOf (stepOf v k) ks
-
--- "no time fault is among them"
-unfoldable pub noFaultB : List Record → Bool
-noFaultB [] = true
-noFaultB (TimeUpdate u ∷ l) = noFaultB l
-noFaultB (TimeFault f ∷ l) = false
 
 -- how a stamp is carried, from the stamp, its next number and a table: `carryOf`, or a wrong way
 abbrev pub Carrying : Type 0

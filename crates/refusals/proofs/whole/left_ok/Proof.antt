@@ -5,8 +5,8 @@ use Rattle.refusals.specs.Rows.{leftB}
 use Rattle.refusals.proofs.RowLaws.{left-gone, left-held}
 use borrow.Author.Needs.{needs}
 use native.Mathlib.Omega.{arith}
-use Rattle.refusals.proofs.rows.left_ok.Statement.{statement}
-use Rattle.refusals.proofs.rows.left_ok.Tie as tie
+use Rattle.refusals.proofs.whole.left_ok.Statement.{statement}
+use Rattle.refusals.proofs.whole.left_ok.Tie as tie
 
 enum-told : tie.Need-enum-told
 enum-told c = search needs

@@ -2,8 +2,8 @@
 -- Assumes nothing.
 use Rattle.refusals.specs.Rows.{runningB}
 use borrow.Author.Needs.{needs}
-use Rattle.refusals.proofs.rows.running_ok.Statement.{statement}
-use Rattle.refusals.proofs.rows.running_ok.Tie as tie
+use Rattle.refusals.proofs.whole.running_ok.Statement.{statement}
+use Rattle.refusals.proofs.whole.running_ok.Tie as tie
 
 enum-told : tie.Need-enum-told
 enum-told c = search needs
