@@ -8,7 +8,7 @@ use Rattle.record.specs.declared.kinds.Record.{Record}
 use Rattle.clock.specs.declared.state.Clock.{Clock}
 use Rattle.judging.specs.Proposal.{proposalAt}
 use Rattle.judging.specs.Grades.{clockGrade, gradeOf}
-use Rattle.judging.specs.Grounds.{unrealistic, outOfRange, lowerQuality, wrongEpoch, groundsOf}
+use Rattle.judging.specs.Grounds.{secondsApart, unrealistic, outOfRange, lowerQuality, wrongEpoch, groundsOf}
 use Rattle.update.specs.Decide.{proposeOpcode, forceOpcode, decideOf}
 use Rattle.update.specs.Accept.{acceptedOf, loggedB, updateRecord}
 use Rattle.update.specs.Response.{responseOf}
@@ -23,6 +23,7 @@ pub record OneOutcome : Type 0 where
   pub proposal-at : (w : List ℕ) (x y : Proposal) → x ≡ proposalAt w → y ≡ proposalAt w → x ≡ y
   pub clock-grade : (s x y : ℕ) → x ≡ clockGrade s → y ≡ clockGrade s → x ≡ y
   pub grade-of : (p : Proposal) (x y : ℕ) → x ≡ gradeOf p → y ≡ gradeOf p → x ≡ y
+  pub seconds-apart : (a b x y : ℕ) → x ≡ secondsApart a b → y ≡ secondsApart a b → x ≡ y
   pub grounds : (c : Clock) (p : Proposal) (f : Bool) (x y : ℕ) → x ≡ groundsOf c p f → y ≡ groundsOf c p f → x ≡ y
   pub decide : (c : Clock) (w : List ℕ) (x y : Decision) → x ≡ decideOf c w → y ≡ decideOf c w → x ≡ y
   pub accepted : (c : Clock) (p : Proposal) (x y : Clock) → x ≡ acceptedOf c p → y ≡ acceptedOf c p → x ≡ y

@@ -10,6 +10,7 @@ returns c =
       proposal-at = λ w x y p q. p ∙ sym q;
       clock-grade = λ s x y p q. p ∙ sym q;
       grade-of = λ g x y p q. p ∙ sym q;
+      seconds-apart = λ a b x y p q. p ∙ sym q;
       grounds = λ c g f x y p q. p ∙ sym q;
       decide = λ c w x y p q. p ∙ sym q;
       accepted = λ c g x y p q. p ∙ sym q;
