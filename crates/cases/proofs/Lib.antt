@@ -3,4 +3,3 @@ pub mod ShutLaws
 pub mod UpdateLaws
 pub mod AccessLaws
 pub mod FaultLaws
-pub mod TransferLaws

@@ -17,20 +17,6 @@ use Rattle.clock.specs.declared.answers.Answer.the-variants.{Done}
 use Rattle.clock.specs.declared.state.Clock.{Clock}
 use Rattle.refusals.specs.Outcome.{doneB, refused, answered}
 
--- a list of bytes, computed
-unfoldable pub bytesB : List ℕ → Bool
-bytesB [] = true
-bytesB (b ∷ l) = both (ltb b 256) (bytesB l)
-
-pub bytes-makes : (l : List ℕ) → bytesB l ≡ true → Bytes l
-unfolding bytesB
-bytes-makes l h = record { byte = go l h }
-  where
-    go : (l : List ℕ) → bytesB l ≡ true → (i : ℕ) → at l i < 256
-    go [] h i = omega arith
-    go (b ∷ l) h zero = ltb-true b 256 (both-reads (ltb b 256) (bytesB l) h .0)
-    go (b ∷ l) h (suc i) = go l (both-reads (ltb b 256) (bytesB l) h .1) i
-
 -- two byte strings with another byte at i
 pub differ : (i : ℕ) {x y : List ℕ} → x ≡ y → eqb (at x i) (at y i) ≡ false → ⊥
 differ i {x} {y} e h = clash (eqb (at x i) (at y i)) (eq-eqb (at x i) (at y i) (ap (λ (l : List ℕ). at l i) e)) h

@@ -17,7 +17,8 @@ use Rattle.service.specs.Promises.{successB, LoggedOne}
 use Rattle.service.specs.Update.{updateRows, settledOf, effectOf, updateOf}
 use Rattle.service.proofs.PromiseLaws.{logged}
 use Rattle.cases.specs.Reader.{propose, output, update, second}
-use Rattle.cases.proofs.ShutLaws.{bytesB, bytes-makes, differ, done-is}
+use Rattle.promises.proofs.CaseLaws.{octetsB, octets-are}
+use Rattle.cases.proofs.ShutLaws.{differ, done-is}
 use Rattle.cases.specs.Wrong.{Updating, Answers, updatingBy, operandBy, decidingBy, rejectsEvery, takesAll, neverLogs, logsCorrected, namesFirst, subtractsUnsigned, UpdatesShutOut}
 
 answers : (c : Clock) (t w o : List ℕ) → doneB (updateOf c t w o .reply .answer) ≡ doneB (firstFailed (updateRows c t w o))
@@ -69,8 +70,8 @@ setBack = propose 800000070
 logs-one : (s : Updating) → Answers s → successB (s (second .clock) (second .table) setBack output) ≡ true
     → LoggedOne (second .clock) (second .table) setBack (s (second .clock) (second .table) setBack output)
     (updateRecord (second .clock) (proposalAt setBack) (next (second .table)))
-unfolding second update bytesB
-logs-one s a h = a .logs (second .clock) (second .table) setBack output (bytes-makes setBack refl) (omega arith) (omega arith) h
+unfolding second update octetsB
+logs-one s a h = a .logs (second .clock) (second .table) setBack output (octets-are setBack refl) (omega arith) (omega arith) h
 
 never-logs : Answers neverLogs → ⊥
 unfolding update second updatingBy

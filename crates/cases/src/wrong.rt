@@ -1,5 +1,5 @@
 // The servers that document 01 shuts out: each promise holds of the right server, and of no wrong one.
-ghost use Rattle.cases.specs.Wrong.{UpdatesShutOut, AccessShutOut, FaultsShutOut, TransfersShutOut};
+ghost use Rattle.cases.specs.Wrong.{UpdatesShutOut, AccessShutOut, FaultsShutOut};
 
 // Time updates: rejecting every proposal, Success to all, never logging, a corrected time, the first ground only,
 // an unsigned difference.
@@ -15,9 +15,4 @@ pub fn access_shut_out()
 // Time faults: a report that runs on, one that ends without its response.
 pub fn faults_shut_out()
     ensures { λ _. ⌜ FaultsShutOut ⌝ }
-{}
-
-// Notifications: a first segment sent rightly and then empty or repeated ones.
-pub fn transfers_shut_out()
-    ensures { λ _. ⌜ TransfersShutOut ⌝ }
 {}

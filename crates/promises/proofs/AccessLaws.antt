@@ -11,7 +11,7 @@ use Rattle.octets.specs.Choice.{both, either}
 use Rattle.octets.specs.Parts.{over}
 use Rattle.clock.specs.declared.answers.Answer.{Answer}
 use Rattle.clock.specs.declared.state.Clock.{Clock}
-use Rattle.refusals.specs.Outcome.{doneB, refused, answered, Outcome}
+use Rattle.refusals.specs.Outcome.{doneB, answered, Outcome}
 use Rattle.service.specs.Promises.{world}
 use Rattle.refusals.specs.Rows.{firstFailed, idleB, writeRows}
 use Rattle.refusals.proofs.RowLaws.{TableRows, table-done, write-all}
@@ -19,6 +19,7 @@ use Rattle.service.proofs.PromiseLaws.{passed}
 use Rattle.access.specs.Request.{opcodeIn, requestOf}
 use Rattle.asking.specs.declared.record_access.Accessed.{Accessed}
 use Rattle.asking.specs.Access.{accessRows, accessedOf, responseIn, accessOf}
+use Rattle.asking.proofs.AccessLaws.{access-refused, access-done}
 use Rattle.promises.specs.World.{left}
 use Rattle.promises.specs.Reports.{responseTo}
 use Rattle.promises.specs.Hearing.{nothing}
@@ -30,27 +31,19 @@ module _ (c : Clock) (t w o : List ℕ) where
   abbrev pub done : Accessed
   done = accessedOf c t (opcodeIn w) (requestOf w)
 
-  access-refused : doneB failed ≡ false → accessOf c t w o ≡ refused failed c t o
-  unfolding accessOf
-  access-refused h = rw h
-
-  access-done : doneB failed ≡ true → accessOf c t w o ≡ answered (done .clock) t (responseIn done) o
-  unfolding accessOf
-  access-done h = rw h
-
   -- clock and table after it
   pub left-refused : doneB (firstFailed (accessRows c t w o)) ≡ false → left (accessOf c t w o) ≡ world c t
-  left-refused h = ap left (access-refused h)
+  left-refused h = ap left (access-refused c t w o h)
 
   pub left-done : doneB (firstFailed (accessRows c t w o)) ≡ true → left (accessOf c t w o) ≡ world (done .clock) t
   unfolding answered
-  left-done h = ap left (access-done h)
+  left-done h = ap left (access-done c t w o h)
 
   -- the bytes that answer it
   pub response-done : doneB (firstFailed (accessRows c t w o)) ≡ true → responseTo (world c t) w o ≡ responseIn done
   unfolding answered over
   response-done h =
-      ap (λ (u : Outcome). take (u .reply .len) (u .output)) (access-done h)
+      ap (λ (u : Outcome). take (u .reply .len) (u .output)) (access-done c t w o h)
       ∙ take-at (responseIn done) (drop (0 + length (responseIn done)) o) (length (responseIn done)) refl
 
   -- the rows that it passed
@@ -69,4 +62,4 @@ module _ (c : Clock) (t w o : List ℕ) where
     where
       go : (b : Bool) → doneB failed ≡ b → doneB failed ≡ true
       go true e = e
-      go false e = ap (λ (u : Outcome). doneB (u .reply .answer)) (sym (access-refused e)) ∙ h
+      go false e = ap (λ (u : Outcome). doneB (u .reply .answer)) (sym (access-refused c t w o e)) ∙ h

@@ -16,11 +16,12 @@ use Rattle.service.specs.Promises.{world}
 use Rattle.promises.specs.Reports.{Accepted}
 use Rattle.promises.specs.Cases.{table, records, reader, output, resultBy, Computed}
 
-octetsB : List ℕ → Bool
+-- a list of bytes, computed
+unfoldable pub octetsB : List ℕ → Bool
 octetsB [] = true
 octetsB (b ∷ l) = both (ltb b 256) (octetsB l)
 
-octets-are : (l : List ℕ) → octetsB l ≡ true → Bytes l
+pub octets-are : (l : List ℕ) → octetsB l ≡ true → Bytes l
 unfolding octetsB
 octets-are l h = record { byte = go l h }
   where

@@ -22,7 +22,7 @@ use Rattle.promises.specs.Hearing.{hearingBy}
 use Rattle.promises.specs.Joined.{Got}
 use Rattle.promises.specs.Reports.{begun, askingB, askingsB, Finished, FinishedReport}
 use Rattle.promises.specs.Cases.{table, reader, output, asks, resultBy}
-use Rattle.promises.specs.Wrong.{way, saidBy, noticeBy, notifyBy, rightWay, rising, emptyCut, repeatedCut, earlyCut, restarting, staying, ShutOut}
+use Rattle.promises.specs.Wrong.{way, saidBy, noticeBy, notifyBy, rightWay, rising, emptyCut, repeatedCut, earlyCut, restarting, staying, again, ShutOut}
 use Rattle.promises.proofs.CaseLaws.{table-bytes, table-accepted}
 
 -- the right way is the right one
@@ -83,5 +83,18 @@ stays : FinishedReport (notifyBy (way segmentOf staying)) → ⊥
 unfolding resultBy notifyBy noticeBy saidBy staying
 stays h = not-refused _ h refl refl
 
+again-out : FinishedReport again → ⊥
+unfolding resultBy again
+again-out h = clash _ (h (world reader table) (1 ∷ 1 ∷ []) output All table-bytes table-accepted .heard asks askings .fine) refl
+
 pub shut-out : ShutOut
-shut-out = record { right = right; empty = empty; repeated = repeated; early = early; restarts = restarts; stays = stays }
+shut-out =
+    record {
+      right = right;
+      empty = empty;
+      repeated = repeated;
+      early = early;
+      restarts = restarts;
+      stays = stays;
+      again = again-out;
+    }

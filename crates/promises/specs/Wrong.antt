@@ -18,7 +18,7 @@ use Rattle.clock.specs.declared.state.Running.the-variants.{Idle, Reporting}
 use Rattle.refusals.specs.Outcome.{doneB}
 use Rattle.refusals.specs.Rows.{firstFailed}
 use Rattle.asking.specs.Report.{report, withRunning, bytesIn}
-use Rattle.transfer.specs.Notify.{notifyRows, headerOf, counterAfter, lastB, segmentOf, leftAfter, closingOf, Said, said, Notice, unsaid, noticed, notifyOf}
+use Rattle.transfer.specs.Notify.{notifyRows, headerOf, counterAfter, lastB, segmentOf, leftAfter, closingOf, Said, said, Notice, notice, unsaid, noticed, notifyOf}
 use Rattle.promises.specs.World.{Notifying}
 use Rattle.promises.specs.Reports.{FinishedReport}
 
@@ -76,6 +76,12 @@ restarting (From number sent) k = pick (eqb sent 0) 0 (counterAfter k)
 unfoldable pub staying : Left → ℕ → ℕ
 staying rest k = k
 
+-- the same segment again and again, since the clock stays as it is
+unfoldable pub again : Notifying
+again c t p o =
+    let n = notifyOf c t p o in
+    notice (record { answer = n .reply .answer; closes = n .reply .closes; clock = c; len = n .reply .len }) (n .output)
+
 pub record ShutOut : Type 0 where
   pub right : (c : Clock) (t : List ℕ) (p : ℕ) (o : List ℕ) → notifyBy rightWay c t p o ≡ notifyOf c t p o
   pub empty : FinishedReport (notifyBy (way emptyCut rising)) → ⊥
@@ -83,3 +89,4 @@ pub record ShutOut : Type 0 where
   pub early : FinishedReport (notifyBy (way earlyCut rising)) → ⊥
   pub restarts : FinishedReport (notifyBy (way segmentOf restarting)) → ⊥
   pub stays : FinishedReport (notifyBy (way segmentOf staying)) → ⊥
+  pub again : FinishedReport again → ⊥
