@@ -1,0 +1,4 @@
+pub mod SameLaws
+pub mod StateLaws
+pub mod JoiningLaws
+pub mod RoundTrip

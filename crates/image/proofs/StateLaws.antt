@@ -1,0 +1,92 @@
+-- The clock state's bytes: how they are laid down, and when bytes are an image.
+-- Assumes nothing.
+use mathlib.Core.Path.{_≡_, refl, sym, ap, _∙_}
+use mathlib.Core.Bool.{Bool, true, false}
+use mathlib.Core.List.{List, [], _∷_, _++_}
+use Prim.Native.Nat.{ℕ}
+use native.Mathlib.Omega.{arith}
+use borrow.Author.Tests.{eq-eqb, ne-eqb, eqb-true}
+use lib.Dec.{eqb}
+use lib.ListN.{length}
+use Rattle.octets.specs.Choice.{pick}
+use Rattle.octets.specs.Numbers.{bytes2, bytes4}
+use Rattle.octets.proofs.Tests.{both-yes, both-no, both-reads}
+use Rattle.clock.specs.declared.state.Clock.{Clock}
+use Rattle.clock.specs.declared.state.Left.the-variants.{Nothing}
+use Rattle.clock.specs.declared.state.Report.{Report}
+use Rattle.clock.specs.declared.state.Running.the-variants.{Idle, Reporting}
+use Rattle.image.specs.State.{stateBytes, switchesOf, bounds, boundsOf, unsentOf, fields, fieldsOf, fieldBytes, imageOf, clockIn, sameB, imageB, readStateOf}
+use Rattle.image.specs.declared.state.Bounds.{Bounds}
+use Rattle.image.specs.declared.state.Fields.{Fields}
+use Rattle.image.specs.declared.state.Unsent.{Unsent}
+use Rattle.image.specs.declared.state.StateRead.the-variants.{Is, Refused}
+use Rattle.image.proofs.SameLaws.{same-reads}
+
+pub image-laid : (c : Clock) {f : Fields} {w : ℕ} → f ≡ fieldsOf (c .running) → w ≡ switchesOf (c .dtcp) (c .racp) (c .log)
+    → bytes4 (c .base)
+    ++ (c .zone ∷ c .dst ∷ c .source ∷ c .accuracy
+    ∷ (bytes2 (c .status)
+    ++ (bytes2 (c .faults)
+    ++ (bytes4 (c .aligned) ++ (w ∷ (fieldBytes f ++ (0 ∷ 0 ∷ 0 ∷ 0 ∷ [])))))))
+    ≡ imageOf c
+unfolding imageOf
+image-laid c e d = rw (e, d)
+
+-- the report's fields, part by part
+pub fields-idle : {b : Bounds} {u : Unsent} → b ≡ bounds 0 0 0 → u ≡ unsentOf Nothing → fields 0 b 0 u ≡ fieldsOf Idle
+unfolding fieldsOf unsentOf
+fields-idle e d = rw (e, d)
+
+pub fields-report : (r : Report) {b : Bounds} {u : Unsent} → b ≡ boundsOf (r .filter) → u ≡ unsentOf (r .left)
+    → fields (r .opcode) b (r .counter) u ≡ fieldsOf (Reporting r)
+unfolding fieldsOf
+fields-report r e d = rw (e, d)
+
+-- not an image, and an image
+no-image : (s : List ℕ) → imageB s ≡ false → readStateOf s ≡ Refused
+unfolding readStateOf
+no-image s h = rw h
+
+pub is-image : (s : List ℕ) → imageB s ≡ true → readStateOf s ≡ Is (clockIn s)
+unfolding readStateOf
+is-image s h = rw h
+
+-- the answers of `read_state`, with what it read and wrote on the way
+module _ (s : List ℕ) where
+  pub read-short : (length s ≡ stateBytes → ⊥) → readStateOf s ≡ Refused
+  unfolding imageB
+  read-short h = no-image s (both-no (eqb (length s) stateBytes) _ (ne-eqb (length s) stateBytes h))
+
+  module _ {c : Clock} {image : List ℕ} {same : Bool}
+      (size : length s ≡ stateBytes)
+      (read : c ≡ clockIn s)
+      (written : image ≡ imageOf c)
+      (told : same ≡ sameB s image)
+    where
+      same-told : imageB s ≡ same
+      unfolding imageB
+      same-told = both-yes (eq-eqb (length s) stateBytes size) ∙ ap (sameB s) (ap imageOf (sym read) ∙ sym written) ∙ sym told
+
+      pub read-differs : same ≡ false → readStateOf s ≡ Refused
+      read-differs h = no-image s (same-told ∙ h)
+
+      pub read-image : same ≡ true → readStateOf s ≡ Is c
+      read-image h = is-image s (same-told ∙ h) ∙ ap Is (sym read)
+
+-- what it is to be an image
+pub image-size : (s : List ℕ) → imageB s ≡ true → length s ≡ stateBytes
+unfolding imageB
+image-size s h = eqb-true (length s) stateBytes (both-reads (eqb (length s) stateBytes) _ h .0)
+
+pub image-back : (s : List ℕ) → imageB s ≡ true → imageOf (clockIn s) ≡ s
+unfolding imageB
+image-back s h = sym (same-reads s (imageOf (clockIn s)) (both-reads (eqb (length s) stateBytes) _ h .1))
+
+-- bytes that were read as a clock are an image's many
+pub read-size : (s : List ℕ) {c : Clock} → readStateOf s ≡ Is c → length s ≡ stateBytes
+unfolding readStateOf
+read-size s h = go (imageB s) refl h
+  where
+    go : (b : Bool) {c : Clock} → imageB s ≡ b → pick b (Is (clockIn s)) Refused ≡ Is c → length s ≡ stateBytes
+    go true e d = image-size s e
+    go false e d = let z : _≡_ {A = ℕ} 0 1 = cc in absurd (omega arith)

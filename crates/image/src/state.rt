@@ -1,0 +1,253 @@
+// The clock state as 32 bytes, little endian. A state has one encoding, with its unused fields 0.
+use clock::state::Clock;
+use clock::state::Left;
+use clock::state::Report;
+use clock::state::Running;
+use filter::request::Filter;
+use octets::numbers::get16;
+use octets::numbers::get32;
+ghost use mathlib.Core.Path.{_≡_};
+ghost use Prim.Native.Nat.{_≤_};
+ghost use lib.ListN.{length};
+ghost use Rattle.image.specs.State.{weightIf, switchesOf, bounds, boundsOf, unsentOf, fieldsOf, imageOf, filterIn, leftIn, runningIn, clockIn, sameB, readStateOf};
+
+// The image's length.
+const STATE_BYTES: usize = 32;
+
+// What bytes stand for: a clock, or nothing, where they are no image.
+pub enum StateRead {
+    Is(Clock),
+    Refused,
+}
+
+// A filter's operator and its values; 0 for a value that it has not.
+pub struct Bounds {
+    pub operator: u8,
+    pub minimum: u16,
+    pub maximum: u16,
+}
+
+// What is left of a report: 1 with the next record's number and its bytes sent, or zeros.
+pub struct Unsent {
+    pub left: u8,
+    pub next: u16,
+    pub sent: u8,
+}
+
+// The running report as bytes 17 to 27 have it; zeros where none is running.
+pub struct Fields {
+    pub opcode: u8,
+    pub bounds: Bounds,
+    pub counter: u8,
+    pub unsent: Unsent,
+}
+
+fn weight_if(on: bool, weight: u8) -> u8
+    ensures { λ r. ⌜ (r ≡ weightIf on weight) × (r ≤ weight) ⌝ }
+{
+    if on { weight } else { 0 }
+}
+
+// Bit 0 DTCP indications, bit 1 RACP indications, bit 2 log notifications.
+fn switches_of(dtcp: bool, racp: bool, log: bool) -> u8
+    ensures { λ r. ⌜ r ≡ switchesOf dtcp racp log ⌝ }
+{
+    weight_if(dtcp, 1) + weight_if(racp, 2) + weight_if(log, 4)
+}
+
+fn bounds_at(operator: u8, minimum: u16, maximum: u16) -> Bounds
+    ensures { λ r. ⌜ r ≡ bounds operator minimum maximum ⌝ }
+{
+    Bounds {
+        operator,
+        minimum,
+        maximum,
+    }
+}
+
+fn bounds_of(f: Filter) -> Bounds
+    ensures { λ r. ⌜ r ≡ boundsOf f ⌝ }
+{
+    match f {
+        Filter::All => bounds_at(1, 0, 0),
+        Filter::AtMost(max) => bounds_at(2, 0, max),
+        Filter::AtLeast(min) => bounds_at(3, min, 0),
+        Filter::Range(min, max) => bounds_at(4, min, max),
+        Filter::First => bounds_at(5, 0, 0),
+        Filter::Last => bounds_at(6, 0, 0),
+    }
+}
+
+fn unsent_of(left: Left) -> Unsent
+    ensures { λ r. ⌜ r ≡ unsentOf left ⌝ }
+{
+    match left {
+        Left::Nothing => Unsent {
+            left: 0,
+            next: 0,
+            sent: 0,
+        },
+        Left::From(next, sent) => Unsent {
+            left: 1,
+            next,
+            sent,
+        },
+    }
+}
+
+fn fields_of(running: Running) -> Fields
+    ensures { λ r. ⌜ r ≡ fieldsOf running ⌝ }
+{
+    match running {
+        Running::Idle => Fields {
+            opcode: 0,
+            bounds: bounds_at(0, 0, 0),
+            counter: 0,
+            unsent: unsent_of(Left::Nothing),
+        },
+        Running::Reporting(report) => {
+            let filter = report.filter;
+            let left = report.left;
+            Fields {
+                opcode: report.opcode,
+                bounds: bounds_of(filter),
+                counter: report.counter,
+                unsent: unsent_of(left),
+            }
+        }
+    }
+}
+
+// The 32 bytes of a clock. Refuses nothing.
+pub fn image_of(c: Clock) -> [u8; 32]
+    ensures { λ r. ⌜ r ≡ imageOf c ⌝ }
+{
+    let running = c.running;
+    let f = fields_of(running);
+    let b = f.bounds;
+    let u = f.unsent;
+    [
+        (c.base % 256) as u8,
+        (c.base / 256 % 256) as u8,
+        (c.base / 65536 % 256) as u8,
+        (c.base / 16777216 % 256) as u8,
+        c.zone,
+        c.dst,
+        c.source,
+        c.accuracy,
+        (c.status % 256) as u8,
+        (c.status / 256 % 256) as u8,
+        (c.faults % 256) as u8,
+        (c.faults / 256 % 256) as u8,
+        (c.aligned % 256) as u8,
+        (c.aligned / 256 % 256) as u8,
+        (c.aligned / 65536 % 256) as u8,
+        (c.aligned / 16777216 % 256) as u8,
+        switches_of(c.dtcp, c.racp, c.log),
+        f.opcode,
+        b.operator,
+        (b.minimum % 256) as u8,
+        (b.minimum / 256 % 256) as u8,
+        (b.maximum % 256) as u8,
+        (b.maximum / 256 % 256) as u8,
+        f.counter,
+        u.left,
+        (u.next % 256) as u8,
+        (u.next / 256 % 256) as u8,
+        u.sent,
+        0,
+        0,
+        0,
+        0,
+    ]
+}
+
+// Of an operator outside 1 to 6 nothing comes of it: it is not written back as it stands.
+fn filter_in(operator: u8, minimum: u16, maximum: u16) -> Filter
+    ensures { λ r. ⌜ r ≡ filterIn operator minimum maximum ⌝ }
+{
+    match operator {
+        2 => Filter::AtMost(maximum),
+        3 => Filter::AtLeast(minimum),
+        4 => Filter::Range(minimum, maximum),
+        5 => Filter::First,
+        6 => Filter::Last,
+        _ => Filter::All,
+    }
+}
+
+fn left_in(left: u8, next: u16, sent: u8) -> Left
+    ensures { λ r. ⌜ r ≡ leftIn left next sent ⌝ }
+{
+    match left {
+        1 => Left::From(next, sent),
+        _ => Left::Nothing,
+    }
+}
+
+fn running_in(s: &[u8]) -> Running
+    requires { ⌜ length (now s) ≡ 32 ⌝ }
+    ensures { λ r. ⌜ r ≡ runningIn (now (s .entry)) ⌝ }
+{
+    let opcode = s[17];
+    if opcode == 0 {
+        return Running::Idle;
+    }
+    Running::Reporting(Report {
+        opcode,
+        filter: filter_in(s[18], get16(s, 19), get16(s, 21)),
+        counter: s[23],
+        left: left_in(s[24], get16(s, 25), s[27]),
+    })
+}
+
+fn clock_in(s: &[u8]) -> Clock
+    requires { ⌜ length (now s) ≡ 32 ⌝ }
+    ensures { λ r. ⌜ r ≡ clockIn (now (s .entry)) ⌝ }
+{
+    let switches = s[16];
+    Clock {
+        base: get32(s, 0),
+        zone: s[4],
+        dst: s[5],
+        source: s[6],
+        accuracy: s[7],
+        status: get16(s, 8),
+        faults: get16(s, 10),
+        aligned: get32(s, 12),
+        dtcp: switches % 2 == 1,
+        racp: switches / 2 % 2 == 1,
+        log: switches / 4 % 2 == 1,
+        running: running_in(s),
+    }
+}
+
+fn same(a: &[u8], b: &[u8]) -> bool
+    requires { ⌜ length (now a) ≡ length (now b) ⌝ }
+    ensures { λ r. ⌜ r ≡ sameB (now (a .entry)) (now (b .entry)) ⌝ }
+{
+    let mut i = 0;
+    while i < a.len() {
+        if a[i] != b[i] {
+            return false;
+        }
+        i += 1;
+    }
+    true
+}
+
+// The clock that an image stands for. Refuses bytes that are not what that clock is written as, and any
+// other length than 32: they are no image.
+pub fn read_state(s: &[u8]) -> StateRead
+    ensures { λ r. ⌜ r ≡ readStateOf (now (s .entry)) ⌝ }
+{
+    if s.len() != STATE_BYTES {
+        return StateRead::Refused;
+    }
+    let c = clock_in(s);
+    let image = image_of(c);
+    if !same(s, &image) {
+        return StateRead::Refused;
+    }
+    StateRead::Is(c)
+}
