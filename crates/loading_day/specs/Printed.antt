@@ -1,0 +1,96 @@
+-- The sheet of the story, computed on these very definitions: every call of the day with its bytes, both reports in segments of 20 bytes,
+-- joined, read and carried.
+use mathlib.Core.Path.{_≡_}
+use mathlib.Core.List.{List, [], _∷_, _++_}
+use Prim.Native.Nat.{ℕ}
+use Rattle.octets.specs.Parts.{zerosB, over}
+use Rattle.rules.specs.Rules.{baseB, zoneB, dstB, sourceB, statusB, bitsB}
+use Rattle.filter.specs.Filter.{matchesB}
+use Rattle.lines.specs.Text.{digitsUpTo, decimal}
+use Rattle.record.specs.Fields.{sequenceOf}
+use Rattle.coding.specs.Layout.{updateBytes, faultBytes, bytesOf, updateAt, faultAt, recordOf, sizedB, shapeB}
+use Rattle.coding.specs.WellFormed.{updateB, faultB, recordB, wellFormedB, readOf}
+use Rattle.table.specs.Table.{sizeB, startB, emptyB, fieldsB, headB, slot, bytesIn, recordIn, slots, ring, held, slotB, rowB, soundB, steps}
+use Rattle.log.specs.Writing.{fresh, startOf, placeOf, slotOf, headerAfter, appendOf}
+use Rattle.held.specs.Matching.{firstFrom, nextMatch, matchingFrom, matching}
+use Rattle.clock.specs.Answers.{numberOf}
+use Rattle.clock.specs.Events.{unlessBroken, withBase, withSwitches, disconnected, secondsOf, switchesOf, disconnectOf}
+use Rattle.clock.specs.Rules.{opcodeB, filterB, counterB, reportB, clockB}
+use Rattle.clock.specs.Rules as clocks
+use Rattle.clock.specs.State.{newReader}
+use Rattle.update.specs.Accept.{statusAfter, alignedAfter, accuracyOf, acceptedOf, loggedB, updateRecord}
+use Rattle.update.specs.Decide.{judged, operandOf, decideOf}
+use Rattle.judging.specs.Grades.{clockGrade, localB, gradeOf}
+use Rattle.judging.specs.Grounds.{epochB, rangeB, lowerB, secondsApart, unrealisticB, flagIf, groundsOf}
+use Rattle.judging.specs.Proposal.{proposalAt}
+use Rattle.update.specs.Response.{responseBytes}
+use Rattle.service.specs.Fault.{countAfter, faultRecord, faultedOf, endingOf, faultOf}
+use Rattle.refusals.specs.Outcome.{doneB, answered}
+use Rattle.refusals.specs.Rows.{firstFailed, leftB, wholeB, tableRows, writeRows}
+use Rattle.refusals.specs.Rows as rows
+use Rattle.service.specs.Start.{newReaderOf}
+use Rattle.service.specs.Update.{updateRows, tableAfter, settledOf, effectOf, updateOf}
+use Rattle.access.specs.Codes.{codeOf}
+use Rattle.access.specs.Request.{operandBytes, typedB, filterAt, askedOf, abortOf, requestOf}
+use Rattle.access.specs.Request as requests
+use Rattle.access.specs.Response.{codeBytes, countBytes}
+use Rattle.asking.specs.Report.{withRunning, numberIn, leftAt, leftFrom}
+use Rattle.asking.specs.Report as reports
+use Rattle.asking.specs.Access.{accessRows, accessed, begunOf, abortedOf, accessedOf, accessOf}
+use Rattle.transfer.specs.Notify.{roomB, notifyRows, headerOf, segmentOf, leftAfter, closingOf, saidOf, noticed, runningNotice, notifyOf}
+use Rattle.tablet.specs.Joining.{emptyJoining, rangesB, filledB, placedB, followsB, standing, takesB, ground, takenOf, joinOf}
+use Rattle.tablet.specs.Reading.{readJoinedOf}
+use Rattle.carry.specs.Carry.{laterOf, movedBy, carriedOver, carriedFrom, carryOf}
+use Rattle.carry.specs.Carry as carries
+use Rattle.sheet.specs.Sheet.{twoDigits, timeOfDay, notedOf, signedOf, outcomeOf, carriedOf, shownText, gap, apartText, pairText, tagLine}
+use Rattle.day.specs.Reader.{proposalBytes, startedOf, withClock, setOf, failedOf, livedOf}
+use Rattle.day.specs.Reader as readers
+use Rattle.day.specs.Play.{openedOf, steppedOf, playedOf}
+use Rattle.evening.specs.Fetch.{loggedIn, keptIn, heardOf, heardAll, fetchedOf, sightOf}
+use Rattle.evening.specs.Fetch as evenings
+use Rattle.day.specs.declared.play.Ramp.{Ramp}
+use Rattle.loading_day.specs.Story.{theDay, theTags}
+use Rattle.loading_day.specs.Page.{linesOf, eveningOf, sheetOf}
+
+-- the ramp in the evening
+unfoldable pub theRamp : Ramp
+unfolding playedOf theDay openedOf steppedOf livedOf startedOf proposalBytes withClock setOf failedOf readers.readOf newReaderOf startOf fresh newReader secondsOf withBase switchesOf withSwitches disconnectOf disconnected unlessBroken faultOf faultedOf faultRecord countAfter endingOf updateOf updateRows firstFailed tableRows writeRows wholeB rows.runningB leftB doneB numberOf clockB clocks.runningB reportB opcodeB filterB counterB baseB zoneB dstB sourceB statusB bitsB soundB headB sizeB startB emptyB fieldsB zerosB slot bytesIn recordIn slots ring held slotB rowB wellFormedB shapeB sizedB recordB updateB faultB recordOf updateAt faultAt sequenceOf matchesB decideOf operandOf judged proposalAt groundsOf flagIf epochB rangeB lowerB unrealisticB secondsApart gradeOf localB clockGrade effectOf settledOf acceptedOf statusAfter alignedAfter accuracyOf tableAfter loggedB updateRecord appendOf steps placeOf slotOf headerAfter bytesOf updateBytes faultBytes responseBytes answered over
+theRamp = playedOf openedOf theDay
+
+-- the text of its sheet
+unfoldable pub theSheet : List ℕ
+unfolding theRamp sheetOf eveningOf linesOf theTags fetchedOf heardAll heardOf keptIn loggedIn sightOf evenings.askedOf accessOf accessRows accessed begunOf abortedOf accessedOf requestOf askedOf abortOf requests.operandOf operandBytes typedB filterAt codeOf codeBytes countBytes withRunning numberIn leftAt leftFrom firstFrom nextMatch matchingFrom matching notifyOf notifyRows roomB headerOf segmentOf leftAfter closingOf saidOf noticed runningNotice reports.bytesIn emptyJoining rangesB filledB placedB followsB standing takesB ground takenOf joinOf readJoinedOf readOf carryOf carriedFrom carriedOver movedBy laterOf carries.numberOf tagLine pairText apartText gap shownText carriedOf outcomeOf signedOf notedOf timeOfDay twoDigits decimal digitsUpTo
+theSheet = eveningOf theTags theRamp
+
+-- a text's lines in a row
+unfoldable pub joinedLines : List (List ℕ) → List ℕ
+joinedLines [] = []
+joinedLines (l ∷ ls) = l ++ joinedLines ls
+
+unfoldable pub printed : List (List ℕ)
+printed =
+    -- `tag left right apart | carried left right apart`
+    (116 ∷ 97 ∷ 103 ∷ 32 ∷ 108 ∷ 101 ∷ 102 ∷ 116 ∷ 32 ∷ 114 ∷ 105 ∷ 103 ∷ 104 ∷ 116 ∷ 32 ∷ 97 ∷ 112 ∷ 97 ∷ 114 ∷ 116 ∷ 32 ∷ 124 ∷ 32 ∷ 99 ∷ 97 ∷ 114 ∷ 114 ∷ 105 ∷ 101 ∷ 100 ∷ 32 ∷ 108 ∷ 101 ∷ 102 ∷ 116 ∷ 32 ∷ 114 ∷ 105 ∷ 103 ∷ 104 ∷ 116 ∷ 32 ∷ 97 ∷ 112 ∷ 97 ∷ 114 ∷ 116 ∷ 10 ∷ [])
+    -- `4101 06:40:00 06:30:03 597 | 06:30:00 refused 13 -`
+    ∷ (52 ∷ 49 ∷ 48 ∷ 49 ∷ 32 ∷ 48 ∷ 54 ∷ 58 ∷ 52 ∷ 48 ∷ 58 ∷ 48 ∷ 48 ∷ 32 ∷ 48 ∷ 54 ∷ 58 ∷ 51 ∷ 48 ∷ 58 ∷ 48 ∷ 51 ∷ 32 ∷ 53 ∷ 57 ∷ 55 ∷ 32 ∷ 124 ∷ 32 ∷ 48 ∷ 54 ∷ 58 ∷ 51 ∷ 48 ∷ 58 ∷ 48 ∷ 48 ∷ 32 ∷ 114 ∷ 101 ∷ 102 ∷ 117 ∷ 115 ∷ 101 ∷ 100 ∷ 32 ∷ 49 ∷ 51 ∷ 32 ∷ 45 ∷ 10 ∷ [])
+    -- `4102 06:41:20 06:00:24 2456 | 06:31:20 06:31:24 4`
+    ∷ (52 ∷ 49 ∷ 48 ∷ 50 ∷ 32 ∷ 48 ∷ 54 ∷ 58 ∷ 52 ∷ 49 ∷ 58 ∷ 50 ∷ 48 ∷ 32 ∷ 48 ∷ 54 ∷ 58 ∷ 48 ∷ 48 ∷ 58 ∷ 50 ∷ 52 ∷ 32 ∷ 50 ∷ 52 ∷ 53 ∷ 54 ∷ 32 ∷ 124 ∷ 32 ∷ 48 ∷ 54 ∷ 58 ∷ 51 ∷ 49 ∷ 58 ∷ 50 ∷ 48 ∷ 32 ∷ 48 ∷ 54 ∷ 58 ∷ 51 ∷ 49 ∷ 58 ∷ 50 ∷ 52 ∷ 32 ∷ 52 ∷ 10 ∷ [])
+    -- `4103 06:42:30 06:32:35 595 | 06:32:30 06:32:35 5`
+    ∷ (52 ∷ 49 ∷ 48 ∷ 51 ∷ 32 ∷ 48 ∷ 54 ∷ 58 ∷ 52 ∷ 50 ∷ 58 ∷ 51 ∷ 48 ∷ 32 ∷ 48 ∷ 54 ∷ 58 ∷ 51 ∷ 50 ∷ 58 ∷ 51 ∷ 53 ∷ 32 ∷ 53 ∷ 57 ∷ 53 ∷ 32 ∷ 124 ∷ 32 ∷ 48 ∷ 54 ∷ 58 ∷ 51 ∷ 50 ∷ 58 ∷ 51 ∷ 48 ∷ 32 ∷ 48 ∷ 54 ∷ 58 ∷ 51 ∷ 50 ∷ 58 ∷ 51 ∷ 53 ∷ 32 ∷ 53 ∷ 10 ∷ [])
+    -- `4104 06:43:30 06:33:34 596 | 06:33:30 06:33:34 4`
+    ∷ (52 ∷ 49 ∷ 48 ∷ 52 ∷ 32 ∷ 48 ∷ 54 ∷ 58 ∷ 52 ∷ 51 ∷ 58 ∷ 51 ∷ 48 ∷ 32 ∷ 48 ∷ 54 ∷ 58 ∷ 51 ∷ 51 ∷ 58 ∷ 51 ∷ 52 ∷ 32 ∷ 53 ∷ 57 ∷ 54 ∷ 32 ∷ 124 ∷ 32 ∷ 48 ∷ 54 ∷ 58 ∷ 51 ∷ 51 ∷ 58 ∷ 51 ∷ 48 ∷ 32 ∷ 48 ∷ 54 ∷ 58 ∷ 51 ∷ 51 ∷ 58 ∷ 51 ∷ 52 ∷ 32 ∷ 52 ∷ 10 ∷ [])
+    -- `4105 06:44:00 06:34:05 595 | 06:34:00 06:34:05 5`
+    ∷ (52 ∷ 49 ∷ 48 ∷ 53 ∷ 32 ∷ 48 ∷ 54 ∷ 58 ∷ 52 ∷ 52 ∷ 58 ∷ 48 ∷ 48 ∷ 32 ∷ 48 ∷ 54 ∷ 58 ∷ 51 ∷ 52 ∷ 58 ∷ 48 ∷ 53 ∷ 32 ∷ 53 ∷ 57 ∷ 53 ∷ 32 ∷ 124 ∷ 32 ∷ 48 ∷ 54 ∷ 58 ∷ 51 ∷ 52 ∷ 58 ∷ 48 ∷ 48 ∷ 32 ∷ 48 ∷ 54 ∷ 58 ∷ 51 ∷ 52 ∷ 58 ∷ 48 ∷ 53 ∷ 32 ∷ 53 ∷ 10 ∷ [])
+    -- `4106 06:35:00 06:35:04 4 | 06:35:00 06:35:04 4`
+    ∷ (52 ∷ 49 ∷ 48 ∷ 54 ∷ 32 ∷ 48 ∷ 54 ∷ 58 ∷ 51 ∷ 53 ∷ 58 ∷ 48 ∷ 48 ∷ 32 ∷ 48 ∷ 54 ∷ 58 ∷ 51 ∷ 53 ∷ 58 ∷ 48 ∷ 52 ∷ 32 ∷ 52 ∷ 32 ∷ 124 ∷ 32 ∷ 48 ∷ 54 ∷ 58 ∷ 51 ∷ 53 ∷ 58 ∷ 48 ∷ 48 ∷ 32 ∷ 48 ∷ 54 ∷ 58 ∷ 51 ∷ 53 ∷ 58 ∷ 48 ∷ 52 ∷ 32 ∷ 52 ∷ 10 ∷ [])
+    -- `4107 06:36:00 - - | 06:36:00 - -`
+    ∷ (52 ∷ 49 ∷ 48 ∷ 55 ∷ 32 ∷ 48 ∷ 54 ∷ 58 ∷ 51 ∷ 54 ∷ 58 ∷ 48 ∷ 48 ∷ 32 ∷ 45 ∷ 32 ∷ 45 ∷ 32 ∷ 124 ∷ 32 ∷ 48 ∷ 54 ∷ 58 ∷ 51 ∷ 54 ∷ 58 ∷ 48 ∷ 48 ∷ 32 ∷ 45 ∷ 32 ∷ 45 ∷ 10 ∷ [])
+    -- `4108 06:37:06 06:37:00 6 | 06:37:06 06:37:00 6`
+    ∷ (52 ∷ 49 ∷ 48 ∷ 56 ∷ 32 ∷ 48 ∷ 54 ∷ 58 ∷ 51 ∷ 55 ∷ 58 ∷ 48 ∷ 54 ∷ 32 ∷ 48 ∷ 54 ∷ 58 ∷ 51 ∷ 55 ∷ 58 ∷ 48 ∷ 48 ∷ 32 ∷ 54 ∷ 32 ∷ 124 ∷ 32 ∷ 48 ∷ 54 ∷ 58 ∷ 51 ∷ 55 ∷ 58 ∷ 48 ∷ 54 ∷ 32 ∷ 48 ∷ 54 ∷ 58 ∷ 51 ∷ 55 ∷ 58 ∷ 48 ∷ 48 ∷ 32 ∷ 54 ∷ 10 ∷ [])
+    ∷ []
+
+-- The sheet, and that the tablet's tables are byte for byte the readers' own.
+pub record Printed : Type 0 where
+  pub text : sheetOf theDay theTags ≡ joinedLines printed
+  pub left : fetchedOf (playedOf openedOf theDay .left) ≡ playedOf openedOf theDay .left .table
+  pub right : fetchedOf (playedOf openedOf theDay .right) ≡ playedOf openedOf theDay .right .table

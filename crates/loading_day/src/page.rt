@@ -1,0 +1,92 @@
+// The page that is printed: the title and a line for each tag.
+use day::play::Happening;
+use day::play::Ramp;
+use day::play::played;
+use day::reader::Note;
+use evening::fetch::fetched;
+use evening::fetch::sight;
+use lines::text::Line;
+use octets::parts::put;
+use sheet::text::tag_line;
+use sheet::text::title_line;
+ghost use mathlib.Core.Path.{_≡_};
+ghost use mathlib.Core.List.{[], _++_};
+ghost use Prim.Native.Nat.{_+_, _≤_};
+ghost use lib.ListN.{length};
+ghost use Rattle.lines.specs.Text.{textOf};
+ghost use Rattle.sheet.specs.Sheet.{titleLine};
+ghost use Rattle.loading_day.specs.Page.{pageText, linesOf, eveningOf, sheetOf};
+
+// Nine lines of at most 96 bytes; its first `len` bytes count.
+pub struct Page {
+    pub bytes: [u8; 864],
+    pub len: usize,
+}
+
+fn blank() -> Page
+    ensures { λ p. ⌜ (pageText p ≡ []) × (p .len ≡ 0) ⌝ }
+{
+    Page {
+        bytes: [0u8; 864],
+        len: 0,
+    }
+}
+
+// How many bytes of a line count.
+fn size(line: Line) -> usize
+    ensures { λ n. ⌜ n ≡ length (textOf line) ⌝ }
+{
+    let len = line.len;
+    if len < 96 { len } else { 96 }
+}
+
+fn with_line(page: Page, line: Line) -> Page
+    requires { ⌜ page .len + 96 ≤ 864 ⌝ }
+    ensures { λ p. ⌜ (pageText p ≡ pageText page ++ textOf line) × (p .len ≤ page .len + 96) ⌝ }
+{
+    let at = page.len;
+    let mut bytes = page.bytes;
+    let text = line.bytes;
+    let n = size(line);
+    put(&mut bytes, at, &text[..n]);
+    Page { bytes, len: at + n }
+}
+
+// The title and the lines, from the notes of both readers and their tables as the tablet fetched them.
+fn page_of(
+    tags: [u16; 8],
+    left: [Note; 8],
+    right: [Note; 8],
+    left_table: [u8; 528],
+    right_table: [u8; 528],
+) -> Page
+    ensures { λ p. ⌜ (pageText p ≡ titleLine ++ linesOf tags left right «left_table» «right_table») × (p .len ≤ 864) ⌝ }
+{
+    let mut page = with_line(blank(), title_line());
+    let mut k = 0;
+    while k < 8 {
+        let first = sight(left[k], left_table);
+        let second = sight(right[k], right_table);
+        page = with_line(page, tag_line(tags[k], first, second));
+        k += 1;
+    }
+    page
+}
+
+// The sheet of a ramp in the evening, when the tablet fetches both logs.
+fn evening(ramp: Ramp, tags: [u16; 8]) -> Page
+    ensures { λ p. ⌜ (pageText p ≡ eveningOf tags ramp) × (p .len ≤ 864) ⌝ }
+{
+    let left = ramp.left;
+    let right = ramp.right;
+    let left_notes = left.notes;
+    let right_notes = right.notes;
+    page_of(tags, left_notes, right_notes, fetched(left), fetched(right))
+}
+
+// The sheet of a day.
+pub fn sheet(day: [Happening; 46], tags: [u16; 8]) -> Page
+    ensures { λ p. ⌜ (pageText p ≡ sheetOf day tags) × (p .len ≤ 864) ⌝ }
+{
+    evening(played(day), tags)
+}

@@ -1,0 +1,13 @@
+// What the promises of this crate come to: each the promise of an empty function, so that the check asks for its
+// proof.
+ghost use Rattle.sheet.specs.Promises.{OneOutcome, Computed};
+
+// No second text meets a line's promise.
+pub fn one_outcome()
+    ensures { λ _. ⌜ OneOutcome ⌝ }
+{}
+
+// Lines with what an ordinary day does not show.
+pub fn computed()
+    ensures { λ _. ⌜ Computed ⌝ }
+{}
