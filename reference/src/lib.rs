@@ -19,19 +19,24 @@
 //! | `joining` | the tablet's joining |
 //! | `carry` | Carrying a stamp |
 //! | `listing` | the listing program's lines |
+//! | `report` | the lines of a whole report over the air |
 //! | `reader` | all calls as one trait, and the reference behind it |
 //! | `world` | the buffers a caller lends, together |
 //! | `vectors` | test vectors kept as data, and their player |
 //! | `random` | adversarial call sequences over two readers |
+//! | `mutants` | readers wrong in one number, for the comparisons to notice |
+//! | `archive` | the proved archive as a reader, behind a program |
 
 #![forbid(unsafe_code)]
 
 pub mod access;
+pub mod archive;
 pub mod carry;
 pub mod clock;
 pub mod image;
 pub mod joining;
 pub mod listing;
+pub mod mutants;
 pub mod notify;
 pub mod numbers;
 pub mod octets;
@@ -39,6 +44,7 @@ pub mod random;
 pub mod reader;
 pub mod record;
 pub mod refusal;
+pub mod report;
 pub mod table;
 pub mod update;
 pub mod vectors;

@@ -102,18 +102,33 @@ impl fmt::Debug for Mismatch {
     }
 }
 
-/// Plays this many calls on both readers, and stops at the first difference.
+/// Plays this many calls on both readers, and stops at the first difference, cut down to its
+/// shortest sequence.
 pub fn compare(a: &dyn Reader, b: &dyn Reader, seed: u64, calls: usize) -> Result<(), Mismatch> {
+    let Some(steps) = differing(a, b, seed, calls) else {
+        return Ok(());
+    };
+    let steps = shortest(a, b, steps);
+    let difference = differs(a, b, &steps).unwrap_or_default();
+    Err(Mismatch { steps, difference })
+}
+
+/// The first sequence after which the readers differ, as it was made.
+pub fn differing(a: &dyn Reader, b: &dyn Reader, seed: u64, calls: usize) -> Option<Vec<Step>> {
     let mut random = Random::new(seed);
     let mut left = calls;
     while left > 0 {
-        left -= sequence(a, b, random.number(), left)?;
+        match sequence(a, b, random.number(), left) {
+            Ok(played) => left -= played,
+            Err(steps) => return Some(steps),
+        }
     }
-    Ok(())
+    None
 }
 
-/// One sequence, from a fresh world on. Answers the number of calls played.
-fn sequence(a: &dyn Reader, b: &dyn Reader, seed: u64, most: usize) -> Result<usize, Mismatch> {
+/// One sequence, from a fresh world on. Answers the number of calls played, or the steps up to
+/// a difference.
+fn sequence(a: &dyn Reader, b: &dyn Reader, seed: u64, most: usize) -> Result<usize, Vec<Step>> {
     let mut maker = Maker::new(seed);
     let (mut world_a, mut world_b) = (World::new(), World::new());
     let mut steps = Vec::new();
@@ -124,9 +139,7 @@ fn sequence(a: &dyn Reader, b: &dyn Reader, seed: u64, most: usize) -> Result<us
         let answer = play(a, &mut world_a, &step);
         let other = play(b, &mut world_b, &step);
         if answer != other || world_a != world_b {
-            let steps = shortest(a, b, steps);
-            let difference = differs(a, b, &steps).unwrap_or_default();
-            return Err(Mismatch { steps, difference });
+            return Err(steps);
         }
         if let Some(answer) = answer {
             calls += 1;

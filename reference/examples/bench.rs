@@ -1,0 +1,93 @@
+//! The archive's times over the reference's, in one run: `bench COMMAND..`, where the command
+//! runs tests/c/bench.c and prints a name and nanoseconds a line.
+
+#![forbid(unsafe_code)]
+
+use reference::image::STATE_BYTES;
+use reference::notify::CLOSING;
+use reference::numbers::PAPER;
+use reference::reader::{Reader, Reference};
+use reference::table::{HEADER_BYTES, SLOT_BYTES};
+use std::hint::black_box;
+use std::process::Command;
+use std::time::Instant;
+
+const ROUNDS: usize = 5;
+const FORCE: [u8; 11] = [0x03, 0x43, 0x00, 0x00, 0x08, 0xAF, 0x2F, 0x04, 0x00, 0x02, 0x01];
+
+/// A reader with its buffers.
+struct Bench {
+    reader: Reference,
+    state: [u8; STATE_BYTES],
+    table: Vec<u8>,
+    out: [u8; 244],
+}
+
+impl Bench {
+    fn new(slots: usize) -> Bench {
+        let table = vec![0; HEADER_BYTES + SLOT_BYTES * slots];
+        let mut bench =
+            Bench { reader: Reference::new(), state: [0; STATE_BYTES], table, out: [0; 244] };
+        assert_eq!(bench.reader.start(&mut bench.state, &mut bench.table), 0);
+        assert_eq!(bench.reader.switches(&mut bench.state, 1, 1, 1), 0);
+        bench
+    }
+
+    fn update(&mut self) {
+        let Bench { reader, state, table, out } = self;
+        assert_eq!(reader.dtcp_write(state, table, black_box(&FORCE), out), 3);
+    }
+
+    fn carry(&self, q: usize) {
+        let mut carried = 0;
+        let table = black_box(&self.table);
+        assert_eq!(self.reader.carry(800_000_000, q as u16, table, &mut carried), 0);
+        black_box(carried);
+    }
+
+    fn report(&mut self) {
+        let Bench { reader, state, table, out } = self;
+        assert_eq!(reader.racp_write(state, table, &[0x01, 0x01], out), 0);
+        while reader.notify(state, black_box(table), PAPER.smallest_payload, out) < CLOSING {}
+    }
+}
+
+/// Nanoseconds that one took, in the best of the rounds.
+fn measure(times: usize, mut one: impl FnMut()) -> f64 {
+    let round = |_| {
+        let begin = Instant::now();
+        (0..times).for_each(|_| one());
+        begin.elapsed().as_nanos() as f64 / times as f64
+    };
+    (0..ROUNDS).map(round).fold(f64::INFINITY, f64::min)
+}
+
+fn of_the_reference(name: &str) -> f64 {
+    let slots = PAPER.most_slots;
+    if name == "dtcp_write" {
+        let mut small = Bench::new(4);
+        return measure(200_000, || small.update());
+    }
+    let mut large = Bench::new(slots);
+    (0..slots).for_each(|_| large.update());
+    match name {
+        "soundness" => measure(1_000, || large.carry(slots)),
+        "carrying" => measure(1_000, || large.carry(0)),
+        "report" => measure(1, || large.report()),
+        other => panic!("no measure named {other}"),
+    }
+}
+
+fn main() {
+    let command: Vec<String> = std::env::args().skip(1).collect();
+    let (program, arguments) = command.split_first().expect("usage: bench COMMAND..");
+    let output = Command::new(program).args(arguments).output().expect("the command runs");
+    assert!(output.status.success(), "{}", String::from_utf8_lossy(&output.stdout));
+    for line in String::from_utf8_lossy(&output.stdout).lines() {
+        let (name, nanoseconds) = line.split_once(' ').expect("a name and nanoseconds");
+        let archive: f64 = nanoseconds.parse().expect("a number");
+        let reference = of_the_reference(name);
+        let ratio = archive / reference;
+        println!("{name}: archive {archive:.0} ns, reference {reference:.0} ns, ratio {ratio:.2}");
+    }
+}

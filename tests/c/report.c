@@ -1,0 +1,69 @@
+/*
+ * Prints a whole report of a log table as it goes over the air: report P < TABLE. The request is 01 01, all
+ * records. One notification a line in hexadecimal; at last `closes` and the closing response. Where nothing
+ * is held, the request itself is answered and no report runs: one line, `answers` and the response. A call
+ * that is refused ends the report: `refused` and its number.
+ */
+#include "check.h"
+#include "whiskraven.h"
+#include <stdlib.h>
+
+/* One byte more than the largest table, so that a longer input is seen to be too long. */
+static uint8_t table[DTS_TABLE_BYTES(DTS_MOST_SLOTS) + 1];
+static uint8_t state[DTS_STATE_BYTES];
+static uint8_t out[DTS_LARGEST_PAYLOAD];
+
+static void line(const char *word, size_t length)
+{
+    printf("%s", word);
+    print_hex(out, length);
+    printf("\n");
+}
+
+static int refused(int32_t answer)
+{
+    printf("refused %d\n", -answer);
+    return 1;
+}
+
+/* A clock that has just been started, over a table of one slot that is then put aside. */
+static void start(void)
+{
+    uint8_t other[DTS_TABLE_BYTES(1)];
+    expect("start", dts_start(state, sizeof state, other, sizeof other), 0);
+    expect("switches", dts_switches(state, sizeof state, 1, 1, 1), 0);
+}
+
+static int report(size_t length, uint32_t p)
+{
+    const uint8_t all[] = {0x01, 0x01};
+    int32_t answer = dts_racp_write(state, sizeof state, table, length, all, sizeof all, out, sizeof out);
+    if (answer < 0)
+        return refused(answer);
+    if (answer > 0) {
+        line("answers ", (size_t)answer);
+        return 0;
+    }
+    for (;;) {
+        answer = dts_notify(state, sizeof state, table, length, p, out, sizeof out);
+        if (answer <= 0)
+            return refused(answer);
+        if (answer >= DTS_CLOSING) {
+            line("closes ", (size_t)(answer - DTS_CLOSING));
+            return 0;
+        }
+        line("", (size_t)answer);
+    }
+}
+
+int main(int count, char **arguments)
+{
+    if (count != 2) {
+        fprintf(stderr, "usage: report P < TABLE\n");
+        return 2;
+    }
+    start();
+    size_t length = fread(table, 1, sizeof table, stdin);
+    int ended = report(length, (uint32_t)strtoul(arguments[1], NULL, 10));
+    return ended || differences != 0;
+}
