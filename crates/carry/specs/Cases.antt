@@ -9,7 +9,7 @@ use Rattle.octets.specs.Numbers.{bytes2}
 use Rattle.octets.specs.Parts.{zerosB, over}
 use Rattle.rules.specs.Rules.{baseB, zoneB, dstB, sourceB, statusB, bitsB}
 use Rattle.record.specs.Fields.{sequenceOf}
-use Rattle.coding.specs.Layout.{updateBytes, faultBytes, bytesOf, updateAt, faultAt, recordOf, sizedB, shapeB}
+use Rattle.layout.specs.Layout.{updateBytes, faultBytes, bytesOf, updateAt, faultAt, recordOf, sizedB, shapeB}
 use Rattle.coding.specs.WellFormed.{updateB, faultB, recordB, wellFormedB}
 use Rattle.record.specs.declared.kinds.Record.{Record}
 use Rattle.record.specs.declared.kinds.Record.the-variants.{TimeUpdate, TimeFault}

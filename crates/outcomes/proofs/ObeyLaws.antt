@@ -12,7 +12,7 @@ use Rattle.octets.specs.Choice.{pick}
 use Rattle.octets.proofs.Tests.{both-yes}
 use Rattle.filter.specs.declared.request.Filter.{Filter}
 use Rattle.record.specs.Fields.{sequenceOf}
-use Rattle.coding.specs.Layout.{bytesOf}
+use Rattle.layout.specs.Layout.{bytesOf}
 use Rattle.record.specs.declared.kinds.Record.{Record}
 use Rattle.coding.proofs.RoundTrip.{length-bytes}
 use Rattle.table.specs.Table.{count, first, ageOf, recordIn, soundB}

@@ -6,7 +6,7 @@ use Prim.Native.Nat.{ℕ, _-_}
 use lib.ListN.{length, replicate}
 use Rattle.octets.specs.Parts.{over, zerosB}
 use Rattle.rules.specs.Rules.{baseB, zoneB, dstB, sourceB, statusB, bitsB}
-use Rattle.coding.specs.Layout.{updateAt, faultAt, recordOf, sizedB, shapeB}
+use Rattle.layout.specs.Layout.{updateAt, faultAt, recordOf, sizedB, shapeB}
 use Rattle.coding.specs.WellFormed.{updateB, faultB, recordB, wellFormedB, readOf, numberOf as readingNumber}
 use Rattle.tablet.specs.Joining.{empty, whole, inside, mostBytes, joining, blank, emptyJoining, rangesB, filledB, placedB, followsB, standing, takesB, ground, takenOf, joinOf, numberOf, recordIn}
 use Rattle.tablet.specs.Reading.{readJoinedOf}

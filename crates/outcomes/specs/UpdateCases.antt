@@ -6,7 +6,7 @@ use mathlib.Core.List.{List, [], _∷_, map}
 use Prim.Native.Nat.{ℕ}
 use Rattle.octets.specs.Numbers.{at}
 use Rattle.rules.specs.Rules.{baseB, zoneB, dstB, sourceB}
-use Rattle.coding.specs.Layout.{updateBytes, bytesOf}
+use Rattle.layout.specs.Layout.{updateBytes, bytesOf}
 use Rattle.clock.specs.declared.state.Clock.{Clock}
 use Rattle.clock.specs.declared.state.Running.the-variants.{Idle}
 use Rattle.judging.specs.Proposal.{proposalAt}

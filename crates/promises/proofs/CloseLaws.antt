@@ -12,7 +12,7 @@ use lib.ListN.{length}
 use Rattle.octets.specs.Parts.{Bytes}
 use Rattle.octets.proofs.Tests.{clash, both-reads}
 use Rattle.filter.specs.declared.request.Filter.{Filter}
-use Rattle.coding.specs.Layout.{bytesOf}
+use Rattle.layout.specs.Layout.{bytesOf}
 use Rattle.record.specs.declared.kinds.Record.{Record}
 use Rattle.table.specs.Table.{soundB}
 use Rattle.clock.specs.declared.state.Clock.{Clock}

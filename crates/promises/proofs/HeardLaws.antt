@@ -12,7 +12,7 @@ use Rattle.octets.specs.Choice.{both}
 use Rattle.octets.specs.Parts.{Bytes}
 use Rattle.octets.proofs.Tests.{clash, both-reads}
 use Rattle.filter.specs.declared.request.Filter.{Filter}
-use Rattle.coding.specs.Layout.{bytesOf}
+use Rattle.layout.specs.Layout.{bytesOf}
 use Rattle.coding.specs.WellFormed.{readOf}
 use Rattle.record.specs.declared.kinds.Record.{Record}
 use Rattle.record.specs.declared.kinds.Reading.the-variants.{Is}

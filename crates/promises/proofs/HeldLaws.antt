@@ -15,7 +15,7 @@ use Rattle.octets.proofs.PartLaws.{bytes-take, bytes-drop}
 use Rattle.filter.specs.Filter.{matchesB}
 use Rattle.filter.specs.declared.request.Filter.{Filter}
 use Rattle.record.specs.Fields.{sequenceOf}
-use Rattle.coding.specs.Layout.{bytesOf, recordOf}
+use Rattle.layout.specs.Layout.{bytesOf, recordOf}
 use Rattle.coding.specs.WellFormed.{wellFormedB, readOf}
 use Rattle.record.specs.declared.kinds.Record.{Record}
 use Rattle.record.specs.declared.kinds.Reading.the-variants.{Is}

@@ -13,7 +13,7 @@ use Rattle.octets.specs.Choice.{pick}
 use Rattle.octets.specs.Parts.{Bytes, over}
 use Rattle.octets.proofs.Tests.{both-yes}
 use Rattle.filter.specs.declared.request.Filter.{Filter}
-use Rattle.coding.specs.Layout.{bytesOf}
+use Rattle.layout.specs.Layout.{bytesOf}
 use Rattle.coding.specs.WellFormed.{readOf}
 use Rattle.record.specs.declared.kinds.Record.{Record}
 use Rattle.record.specs.declared.kinds.Reading.the-variants.{Is}

@@ -9,7 +9,7 @@ use Rattle.octets.specs.Choice.{both, either, pick}
 use Rattle.octets.specs.Numbers.{bytes2}
 use Rattle.octets.specs.Parts.{Bytes}
 use Rattle.filter.specs.declared.request.Filter.{Filter}
-use Rattle.coding.specs.Layout.{bytesOf}
+use Rattle.layout.specs.Layout.{bytesOf}
 use Rattle.record.specs.declared.kinds.Record.{Record}
 use Rattle.record.specs.declared.kinds.Reading.the-variants.{Is}
 use Rattle.held.specs.Matching.{matching}

@@ -11,7 +11,7 @@ use Rattle.octets.specs.Choice.{both, pick}
 use Rattle.octets.proofs.Tests.{clash, both-reads, both-yes, both-no}
 use Rattle.filter.specs.Filter.{matchesB}
 use Rattle.filter.specs.declared.request.Filter.{Filter}
-use Rattle.coding.specs.Layout.{bytesOf}
+use Rattle.layout.specs.Layout.{bytesOf}
 use Rattle.record.specs.declared.kinds.Record.{Record}
 use Rattle.table.specs.Table.{count, held, ageOf, soundB}
 use Rattle.clock.specs.Answers.{numberOf}

@@ -7,7 +7,7 @@ use lib.ListN.{length, drop}
 use Rattle.octets.specs.Choice.{both, pick}
 use Rattle.filter.specs.Filter.{matchesB}
 use Rattle.filter.specs.declared.request.Filter.{Filter}
-use Rattle.coding.specs.Layout.{bytesOf}
+use Rattle.layout.specs.Layout.{bytesOf}
 use Rattle.record.specs.declared.kinds.Record.{Record}
 use Rattle.table.specs.Table.{count, held, ageOf, soundB}
 use Rattle.clock.specs.Rules.{clockB}

@@ -2,12 +2,12 @@
 // table").
 use clock::state::Left;
 use clock::state::Running;
-use coding::writing::length_of;
 use filter::request::Filter;
 use filter::request::matches;
 use held::look::age_of;
 use held::look::held_count;
 use held::look::record_at;
+use layout::writing::length_of;
 use octets::choice::both;
 ghost use mathlib.Core.Path.{_≡_};
 ghost use mathlib.Core.Bool.{true};

@@ -10,7 +10,7 @@ use Rattle.octets.specs.Parts.{Bytes, zerosB, over}
 use Rattle.rules.specs.Rules.{baseB, zoneB, dstB, sourceB, statusB, bitsB}
 use Rattle.filter.specs.Filter.{matchesB}
 use Rattle.record.specs.Fields.{sequenceOf}
-use Rattle.coding.specs.Layout.{updateBytes, faultBytes, bytesOf, updateAt, faultAt, recordOf, sizedB, shapeB}
+use Rattle.layout.specs.Layout.{updateBytes, faultBytes, bytesOf, updateAt, faultAt, recordOf, sizedB, shapeB}
 use Rattle.coding.specs.WellFormed.{updateB, faultB, recordB, wellFormedB}
 use Rattle.table.specs.Table.{sizeB, startB, emptyB, fieldsB, headB, next, slot, bytesIn, recordIn, slots, ring, held, slotB, rowB, soundB, steps}
 use Rattle.log.specs.Writing.{fresh, placeOf, slotOf, headerAfter, appendOf}

@@ -9,7 +9,7 @@ use native.Mathlib.Omega.{arith}
 use lib.ListN.{length}
 use lib.Seq.{take-all}
 use Rattle.octets.proofs.Tests.{false-by, both-reads}
-use Rattle.coding.specs.Layout.{shapeB, recordOf}
+use Rattle.layout.specs.Layout.{shapeB, recordOf}
 use Rattle.coding.specs.WellFormed.{recordB, wellFormedB, readOf}
 use Rattle.record.specs.declared.kinds.Reading.the-variants.{Refused}
 use Rattle.coding.proofs.ShapeLaws.{sized-reads, shape-sized}

@@ -10,7 +10,7 @@ use lib.ListN.{length, drop}
 use Rattle.octets.specs.Choice.{both}
 use Rattle.octets.specs.Parts.{over}
 use Rattle.octets.proofs.Tests.{both-reads}
-use Rattle.coding.specs.Layout.{bytesOf}
+use Rattle.layout.specs.Layout.{bytesOf}
 use Rattle.record.specs.declared.kinds.Record.{Record}
 use Rattle.table.specs.Table.{held, ageOf, soundB}
 use Rattle.clock.specs.Answers.{numberOf}

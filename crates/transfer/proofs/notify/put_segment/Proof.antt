@@ -4,7 +4,7 @@ use mathlib.Core.Path.{_≡_, ap, _∙_}
 use Prim.Native.Nat.{_-_}
 use lib.ListN.{length, replicate, length-append}
 use Rattle.octets.proofs.PartLaws.{length-over}
-use Rattle.coding.specs.Layout.{bytesOf, writtenOf}
+use Rattle.layout.specs.Layout.{bytesOf, writtenOf}
 use Rattle.coding.proofs.RoundTrip.{length-bytes}
 use Rattle.transfer.specs.Notify.{segmentOf}
 use Rattle.transfer.proofs.SegmentLaws.{Cut, cut, over-cons}
