@@ -67,8 +67,16 @@ unfoldable pub heardAll : ℕ → List ℕ → Fetch → Fetch
 heardAll zero t f = f
 heardAll (suc n) t f = heardAll n t (heardOf t f)
 
+-- of a report that did not close the tablet has no table: zeros are not sound, and carrying refuses with 1
+unfoldable pub finishedOf : Fetch → List ℕ
+finishedOf f = pick (f .closed) (f .copy) (replicate 528 0)
+
+-- a report of all records: of eight each has two segments, and one asking more closes it
+unfoldable pub reportOf : Reader → Fetch
+reportOf r = heardAll 17 (r .table) (askedOf (r .clock) (r .table))
+
 unfoldable pub fetchedOf : Reader → List ℕ
-fetchedOf r = heardAll 17 (r .table) (askedOf (r .clock) (r .table)) .copy
+fetchedOf r = finishedOf (reportOf r)
 
 -- what the sheet shows of a note: its stamp, and the stamp carried
 unfoldable pub sightOf : Note → List ℕ → Sight

@@ -18,7 +18,7 @@ use tablet::joining::restart;
 use tablet::reading::read_joined;
 use transfer::notify::notify;
 ghost use mathlib.Core.Path.{_≡_};
-ghost use Rattle.evening.specs.Fetch.{loggedIn, keptIn, askedOf, heardOf, fetchedOf, sightOf};
+ghost use Rattle.evening.specs.Fetch.{loggedIn, keptIn, askedOf, heardOf, finishedOf, fetchedOf, sightOf};
 
 // What the reader's clock is and what the tablet has, in the course of a report.
 pub struct Fetch {
@@ -109,6 +109,16 @@ fn heard(f: Fetch, table: [u8; 528]) -> Fetch
     }
 }
 
+// Of a report that did not close the tablet has no table: zeros are not sound, and carrying refuses with 1.
+fn finished(f: Fetch) -> [u8; 528]
+    ensures { λ t. ⌜ t ≡ finishedOf f ⌝ }
+{
+    if f.closed {
+        return f.copy;
+    }
+    [0u8; 528]
+}
+
 // The tablet's table of a reader's records. Of eight records each has two segments, and one asking more closes the
 // report.
 pub fn fetched(r: Reader) -> [u8; 528]
@@ -122,7 +132,7 @@ pub fn fetched(r: Reader) -> [u8; 528]
         f = heard(f, table);
         askings -= 1;
     }
-    f.copy
+    finished(f)
 }
 
 // A note with its stamp carried by the tablet's table.

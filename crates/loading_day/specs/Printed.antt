@@ -46,7 +46,7 @@ use Rattle.sheet.specs.Sheet.{twoDigits, timeOfDay, notedOf, signedOf, outcomeO
 use Rattle.day.specs.Reader.{proposalBytes, startedOf, withClock, setOf, failedOf, livedOf}
 use Rattle.day.specs.Reader as readers
 use Rattle.day.specs.Play.{openedOf, steppedOf, playedOf}
-use Rattle.evening.specs.Fetch.{loggedIn, keptIn, heardOf, heardAll, fetchedOf, sightOf}
+use Rattle.evening.specs.Fetch.{loggedIn, keptIn, heardOf, heardAll, finishedOf, reportOf, fetchedOf, sightOf}
 use Rattle.evening.specs.Fetch as evenings
 use Rattle.day.specs.declared.play.Ramp.{Ramp}
 use Rattle.loading_day.specs.Story.{theDay, theTags}
@@ -59,7 +59,7 @@ theRamp = playedOf openedOf theDay
 
 -- the text of its sheet
 unfoldable pub theSheet : List ℕ
-unfolding theRamp sheetOf eveningOf linesOf theTags fetchedOf heardAll heardOf keptIn loggedIn sightOf evenings.askedOf accessOf accessRows accessed begunOf abortedOf accessedOf requestOf askedOf abortOf requests.operandOf operandBytes typedB filterAt codeOf codeBytes countBytes withRunning numberIn leftAt leftFrom firstFrom nextMatch matchingFrom matching notifyOf notifyRows roomB headerOf segmentOf leftAfter closingOf saidOf noticed runningNotice reports.bytesIn emptyJoining rangesB filledB placedB followsB standing takesB ground takenOf joinOf readJoinedOf readOf carryOf carriedFrom carriedOver movedBy laterOf carries.numberOf tagLine pairText apartText gap shownText carriedOf outcomeOf signedOf notedOf timeOfDay twoDigits decimal digitsUpTo
+unfolding theRamp sheetOf eveningOf linesOf theTags fetchedOf finishedOf reportOf heardAll heardOf keptIn loggedIn sightOf evenings.askedOf accessOf accessRows accessed begunOf abortedOf accessedOf requestOf askedOf abortOf requests.operandOf operandBytes typedB filterAt codeOf codeBytes countBytes withRunning numberIn leftAt leftFrom firstFrom nextMatch matchingFrom matching notifyOf notifyRows roomB headerOf segmentOf leftAfter closingOf saidOf noticed runningNotice reports.bytesIn emptyJoining rangesB filledB placedB followsB standing takesB ground takenOf joinOf readJoinedOf readOf carryOf carriedFrom carriedOver movedBy laterOf carries.numberOf tagLine pairText apartText gap shownText carriedOf outcomeOf signedOf notedOf timeOfDay twoDigits decimal digitsUpTo
 theSheet = eveningOf theTags theRamp
 
 -- a text's lines in a row

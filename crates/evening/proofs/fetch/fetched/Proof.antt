@@ -2,8 +2,7 @@
 -- Assumes nothing.
 use Prim.Native.Nat.{_-_}
 use mathlib.Core.Path.{_≡_, refl, sym, ap, _∙_}
-use Rattle.evening.specs.Fetch.{heardAll, fetchedOf}
-use Rattle.evening.specs.declared.fetch.Fetch.{Fetch}
+use Rattle.evening.specs.Fetch.{heardAll, finishedOf, reportOf, fetchedOf}
 use Rattle.evening.proofs.FetchLaws.{heard-next, heard-none}
 use native.Mathlib.Omega.{arith}
 use borrow.Author.Needs.{needs}
@@ -38,13 +37,17 @@ loop-again c =
     let k = l .loop .askings in
     ap (heardAll (k - 1) t) (c .heard .ensures) ∙ sym (heard-next k t (l .loop .f) (omega arith)) ∙ l .loop .inv
 
+finished-requires : tie.Need-finished-requires Inv-loop μ-loop
+finished-requires c κs = search needs
+
 returns : tie.Need-returns Inv-loop μ-loop
-unfolding fetchedOf
+unfolding fetchedOf reportOf
 returns c =
     let l = c .before .before in
     let a = l .before in
     let t = a .before .before .before .args .r .table in
-    ap (λ (x : Fetch). x .copy)
+    c .finished .ensures
+    ∙ ap finishedOf
     (sym (heard-none (l .loop .askings) t (l .loop .f) (omega arith)) ∙ l .loop .inv ∙ ap (heardAll 17 t) (a .asked .ensures))
 
 pub fetched-spec : {M : Type 1} → statement M
@@ -59,4 +62,5 @@ fetched-spec =
     sub-askings
     loop-less
     loop-again
+    finished-requires
     returns)
