@@ -12,7 +12,7 @@ ghost use lib.ListN.{length};
 ghost use Rattle.image.specs.State.{weightIf, switchesOf, bounds, boundsOf, unsentOf, fieldsOf, imageOf, filterIn, leftIn, runningIn, clockIn, sameB, readStateOf};
 
 // The image's length.
-const STATE_BYTES: usize = 32;
+pub const STATE_BYTES: usize = 32;
 
 // What bytes stand for: a clock, or nothing, where they are no image.
 pub enum StateRead {

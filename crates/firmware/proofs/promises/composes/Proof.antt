@@ -1,0 +1,11 @@
+-- Over images, the calls by value.
+-- Assumes nothing.
+use Rattle.firmware.proofs.PromiseLaws.{composes}
+use Rattle.firmware.proofs.promises.composes.Statement.{statement}
+use Rattle.firmware.proofs.promises.composes.Tie as tie
+
+returns : tie.Need-returns
+returns c = composes
+
+pub composes-spec : {M : Type 1} → statement M
+composes-spec = tie.close (tie.spec returns)

@@ -1,0 +1,66 @@
+-- The paper's case 1 over bytes, run by the checker on the definitions that the entry points' promises cite: "New reader, switches on; Propose
+-- 800,000,000, epoch 2000, GPS (2), zone 4, DST 0, UTC and qualified-local flags ..: record 0, old 631,152,000, status 0x0016."
+use mathlib.Core.Path.{_≡_}
+use mathlib.Core.List.{List, [], _∷_, _++_}
+use Prim.Native.Nat.{ℕ}
+use lib.IntN.{ℤ, pos}
+use lib.ListN.{replicate}
+use Rattle.octets.specs.Parts.{part, zerosB, over}
+use Rattle.rules.specs.Rules.{baseB, zoneB, dstB, sourceB, statusB, bitsB}
+use Rattle.layout.specs.Layout.{updateBytes, bytesOf}
+use Rattle.table.specs.Table.{sizeB, startB, emptyB, fieldsB, headB, slots, ring, rowB, soundB, steps}
+use Rattle.log.specs.Writing.{fresh, startOf, placeOf, slotOf, headerAfter, appendOf}
+use Rattle.clock.specs.Answers.{numberOf}
+use Rattle.clock.specs.Events.{unlessBroken, withSwitches, switchesOf}
+use Rattle.clock.specs.Rules.{clockB}
+use Rattle.clock.specs.Rules as clocks
+use Rattle.clock.specs.State.{newReader}
+use Rattle.update.specs.Accept.{statusAfter, alignedAfter, accuracyOf, acceptedOf, loggedB, updateRecord}
+use Rattle.update.specs.Decide.{judged, operandOf, decideOf}
+use Rattle.judging.specs.Grades.{clockGrade, localB, gradeOf}
+use Rattle.judging.specs.Grounds.{epochB, rangeB, lowerB, secondsApart, unrealisticB, flagIf, groundsOf}
+use Rattle.judging.specs.Proposal.{proposalAt}
+use Rattle.update.specs.Response.{responseBytes}
+use Rattle.refusals.specs.Outcome.{doneB, answered}
+use Rattle.refusals.specs.Rows.{firstFailed, wholeB, tableRows, writeRows}
+use Rattle.refusals.specs.Rows as rows
+use Rattle.service.specs.Start.{newReaderOf}
+use Rattle.service.specs.Update.{updateRows, tableAfter, settledOf, effectOf, updateOf}
+use Rattle.image.specs.State.{switchesOf as switchesIn, boundsOf, unsentOf, fieldsOf, fieldBytes, imageOf, filterIn, leftIn, runningIn, clockIn, sameB, imageB, readStateOf}
+use Rattle.firmware.specs.Results.{resultOf, stateAfter, Ran}
+use Rattle.firmware.specs.Results as results
+use Rattle.firmware.specs.Start.{StartedBytes, startAt}
+use Rattle.firmware.specs.Events.{switchesAt}
+use Rattle.firmware.specs.Calls.{Called, dtcpAt}
+
+-- so many bytes 0xAA: buffers with something in them
+abbrev pub filled : ℕ → List ℕ
+filled n = replicate n 0xaa
+
+-- a reader started in a state of 32 bytes and a table of one slot
+unfoldable pub start : StartedBytes
+unfolding startAt newReaderOf startOf sizeB fresh newReader resultOf stateAfter doneB numberOf imageOf switchesIn fieldsOf fieldBytes
+start = startAt (filled 32) (filled 80)
+
+-- its switches on
+unfoldable pub switches : Ran
+unfolding start switchesAt readStateOf imageB sameB clockIn runningIn unlessBroken switchesOf withSwitches clockB clocks.runningB baseB zoneB dstB sourceB statusB bitsB resultOf stateAfter doneB numberOf imageOf switchesIn fieldsOf fieldBytes results.settledOf
+switches = switchesAt (start .state) 1 2 255
+
+-- "Propose 800,000,000 .."
+abbrev pub propose : List ℕ
+propose = 0x02 ∷ 0x43 ∷ 0x00 ∷ 0x00 ∷ 0x08 ∷ 0xaf ∷ 0x2f ∷ 0x04 ∷ 0x00 ∷ 0x02 ∷ 0x01 ∷ []
+
+unfoldable pub written : Called
+unfolding start switches dtcpAt updateOf updateRows effectOf settledOf tableAfter answered firstFailed tableRows writeRows wholeB rows.runningB soundB headB sizeB startB emptyB fieldsB slots ring rowB zerosB decideOf operandOf judged proposalAt groundsOf flagIf epochB rangeB lowerB unrealisticB secondsApart gradeOf localB clockGrade acceptedOf statusAfter alignedAfter accuracyOf loggedB updateRecord responseBytes appendOf steps placeOf slotOf headerAfter bytesOf updateBytes over readStateOf imageB sameB clockIn runningIn clockB clocks.runningB baseB zoneB dstB sourceB statusB bitsB resultOf stateAfter doneB numberOf imageOf switchesIn fieldsOf fieldBytes
+written = dtcpAt (switches .state) (start .table) propose (filled 20)
+
+pub record Computed : Type 0 where
+  pub started : start .result ≡ pos 0
+  pub begun : start .state ≡ 0x80 ∷ 0x9d ∷ 0x9e ∷ 0x25 ∷ 0x80 ∷ 0xff ∷ 0 ∷ 0xff ∷ 0x19 ∷ 0 ∷ 0 ∷ 0 ∷ 0x80 ∷ 0x9d ∷ 0x9e ∷ 0x25 ∷ replicate 16 0
+  pub switched : switches .result ≡ pos 0
+  pub taken : written .result ≡ pos 3
+  pub response : written .output ≡ 0x09 ∷ 0x02 ∷ 0x01 ∷ filled 17
+  pub state : written .state ≡ 0 ∷ 0x08 ∷ 0xaf ∷ 0x2f ∷ 4 ∷ 0 ∷ 2 ∷ 1 ∷ 0x16 ∷ 0 ∷ 0 ∷ 0 ∷ 0 ∷ 0x08 ∷ 0xaf ∷ 0x2f ∷ 7 ∷ replicate 15 0
+  pub record-0 : part (written .table) 16 25
+      ≡ 24 ∷ 0 ∷ 0 ∷ 1 ∷ 0 ∷ 0 ∷ 0 ∷ 0x16 ∷ 0 ∷ 0x19 ∷ 0 ∷ 0 ∷ 0 ∷ 4 ∷ 0 ∷ 2 ∷ 1 ∷ 0 ∷ 0x08 ∷ 0xaf ∷ 0x2f ∷ 0x80 ∷ 0x9d ∷ 0x9e ∷ 0x25 ∷ []

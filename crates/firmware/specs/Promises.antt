@@ -1,0 +1,87 @@
+-- What is promised of the entry points beyond each one's own equation.
+use mathlib.Core.Path.{_≡_}
+use mathlib.Core.Bool.{Bool, true}
+use mathlib.Core.List.{List}
+use Prim.Native.Nat.{ℕ}
+use lib.IntN.{ℤ, pos, negsuc}
+use lib.ListN.{length, replicate}
+use Rattle.clock.specs.Answers.{numberOf, attErrorOf}
+use Rattle.clock.specs.Events.{secondsOf, switchesOf, disconnectOf}
+use Rattle.clock.specs.Rules.{clockB}
+use Rattle.clock.specs.declared.answers.Answer.{Answer}
+use Rattle.clock.specs.declared.state.Clock.{Clock}
+use Rattle.service.specs.Fault.{faultOf}
+use Rattle.service.specs.Update.{updateOf}
+use Rattle.values.specs.Value.{deviceTimeOf}
+use Rattle.asking.specs.Access.{accessOf}
+use Rattle.transfer.specs.Notify.{notifyOf}
+use Rattle.tablet.specs.Joining.{joinOf, mostBytes}
+use Rattle.tablet.specs.declared.joining.Joining.{Joining}
+use Rattle.image.specs.State.{imageOf}
+use Rattle.image.specs.Joining.{joiningImage}
+use Rattle.image.specs.Promises.{Fits}
+use Rattle.firmware.specs.Results.{Ran}
+use Rattle.firmware.specs.Start.{StartedBytes, started, startAt}
+use Rattle.firmware.specs.Events.{eventful, onB, secondsAt, switchesAt, disconnectAt}
+use Rattle.firmware.specs.Calls.{Called, called, replied, notified, faultAt, dtcpAt, racpAt, notifyAt}
+use Rattle.firmware.specs.ValuesRead.{Shown, shown, answered, deviceTimeAt, featureAt, parametersAt}
+use Rattle.firmware.specs.TabletCalls.{JoinedBytes, joinedBytes, joinAt, ReadNumbers, reading, readAt, CarriedTo, carrying, carryAt}
+use Rattle.firmware.specs.Errors.{attErrorAt}
+use Rattle.firmware.specs.Results.{ran}
+
+-- Two outcomes that meet an entry point's promise are one outcome.
+pub record OneOutcome : Type 0 where
+  pub start : (s t : List ℕ) (x y : StartedBytes) → x ≡ startAt s t → y ≡ startAt s t → x ≡ y
+  pub seconds : (s : List ℕ) (n : ℕ) (x y : Ran) → x ≡ secondsAt s n → y ≡ secondsAt s n → x ≡ y
+  pub switches : (s : List ℕ) (a b d : ℕ) (x y : Ran) → x ≡ switchesAt s a b d → y ≡ switchesAt s a b d → x ≡ y
+  pub disconnect : (s : List ℕ) (x y : Ran) → x ≡ disconnectAt s → y ≡ disconnectAt s → x ≡ y
+  pub fault : (s t o : List ℕ) (x y : Called) → x ≡ faultAt s t o → y ≡ faultAt s t o → x ≡ y
+  pub dtcp-write : (s t w o : List ℕ) (x y : Called) → x ≡ dtcpAt s t w o → y ≡ dtcpAt s t w o → x ≡ y
+  pub racp-write : (s t w o : List ℕ) (x y : Called) → x ≡ racpAt s t w o → y ≡ racpAt s t w o → x ≡ y
+  pub notify : (s t : List ℕ) (p : ℕ) (o : List ℕ) (x y : Called) → x ≡ notifyAt s t p o → y ≡ notifyAt s t p o → x ≡ y
+  pub device-time : (s t o : List ℕ) (x y : Shown) → x ≡ deviceTimeAt s t o → y ≡ deviceTimeAt s t o → x ≡ y
+  pub feature : (o : List ℕ) (x y : Shown) → x ≡ featureAt o → y ≡ featureAt o → x ≡ y
+  pub parameters : (o : List ℕ) (x y : Shown) → x ≡ parametersAt o → y ≡ parametersAt o → x ≡ y
+  pub join : (j n : List ℕ) (x y : JoinedBytes) → x ≡ joinAt j n → y ≡ joinAt j n → x ≡ y
+  pub read : (b f : List ℕ) (x y : ReadNumbers) → x ≡ readAt b f → y ≡ readAt b f → x ≡ y
+  pub carry : (stamp q : ℕ) (t : List ℕ) (z : ℤ) (x y : CarriedTo) → x ≡ carryAt stamp q t z → y ≡ carryAt stamp q t z → x ≡ y
+  pub att-error : (n : ℕ) (x y : ℤ) → x ≡ attErrorAt n → y ≡ attErrorAt n → x ≡ y
+
+-- "A refusal leaves state, log and output untouched": where the result is below 0, all that is lent is as it was; "10 empties the joining
+-- state": every byte of it is 0.
+pub record RefusedUnchanged : Type 0 where
+  pub start : (s t : List ℕ) (n : ℕ) → startAt s t .result ≡ negsuc n → startAt s t ≡ started (negsuc n) s t
+  pub seconds : (s : List ℕ) (k n : ℕ) → secondsAt s k .result ≡ negsuc n → secondsAt s k ≡ ran (negsuc n) s
+  pub switches : (s : List ℕ) (a b d n : ℕ) → switchesAt s a b d .result ≡ negsuc n → switchesAt s a b d ≡ ran (negsuc n) s
+  pub disconnect : (s : List ℕ) (n : ℕ) → disconnectAt s .result ≡ negsuc n → disconnectAt s ≡ ran (negsuc n) s
+  pub fault : (s t o : List ℕ) (n : ℕ) → faultAt s t o .result ≡ negsuc n → faultAt s t o ≡ called (negsuc n) s t o
+  pub dtcp-write : (s t w o : List ℕ) (n : ℕ) → dtcpAt s t w o .result ≡ negsuc n → dtcpAt s t w o ≡ called (negsuc n) s t o
+  pub racp-write : (s t w o : List ℕ) (n : ℕ) → racpAt s t w o .result ≡ negsuc n → racpAt s t w o ≡ called (negsuc n) s t o
+  pub notify : (s t : List ℕ) (p : ℕ) (o : List ℕ) (n : ℕ) → notifyAt s t p o .result ≡ negsuc n → notifyAt s t p o ≡ called (negsuc n) s t o
+  pub device-time : (s t o : List ℕ) (n : ℕ) → deviceTimeAt s t o .result ≡ negsuc n → deviceTimeAt s t o .output ≡ o
+  pub feature : (o : List ℕ) (n : ℕ) → featureAt o .result ≡ negsuc n → featureAt o .output ≡ o
+  pub parameters : (o : List ℕ) (n : ℕ) → parametersAt o .result ≡ negsuc n → parametersAt o .output ≡ o
+  pub join : (j b : List ℕ) (n : ℕ) → joinAt j b .result ≡ negsuc n → joinAt j b .joining ≡ replicate (length j) 0
+  pub read : (b f : List ℕ) (n : ℕ) → readAt b f .result ≡ negsuc n → readAt b f .fields ≡ f
+  pub carry : (stamp q : ℕ) (t : List ℕ) (z : ℤ) (n : ℕ) → carryAt stamp q t z .result ≡ negsuc n → carryAt stamp q t z .carried ≡ z
+
+-- Over the image of a clock that obeys its rules, with fields that fit their types, an entry point is the call by value, and the state
+-- becomes the image of its clock after; over a joining state's image likewise.
+pub record Composes : Type 0 where
+  pub seconds : (c : Clock) → Fits c → clockB c ≡ true → (n : ℕ) → secondsAt (imageOf c) n ≡ eventful (imageOf c) (secondsOf c n)
+  pub switches : (c : Clock) → Fits c → clockB c ≡ true → (a b d : ℕ)
+      → switchesAt (imageOf c) a b d ≡ eventful (imageOf c) (switchesOf c (onB a) (onB b) (onB d))
+  pub disconnect : (c : Clock) → Fits c → clockB c ≡ true → disconnectAt (imageOf c) ≡ eventful (imageOf c) (disconnectOf c)
+  pub fault : (c : Clock) → Fits c → clockB c ≡ true → (t o : List ℕ) → faultAt (imageOf c) t o ≡ replied (imageOf c) (faultOf c t o)
+  pub dtcp-write : (c : Clock) → Fits c → clockB c ≡ true → (t w o : List ℕ)
+      → dtcpAt (imageOf c) t w o ≡ replied (imageOf c) (updateOf c t w o)
+  pub racp-write : (c : Clock) → Fits c → clockB c ≡ true → (t w o : List ℕ)
+      → racpAt (imageOf c) t w o ≡ replied (imageOf c) (accessOf c t w o)
+  pub notify : (c : Clock) → Fits c → clockB c ≡ true → (t : List ℕ) (p : ℕ) (o : List ℕ)
+      → notifyAt (imageOf c) t p o ≡ notified (imageOf c) t (notifyOf c t p o)
+  pub device-time : (c : Clock) → Fits c → clockB c ≡ true → (t o : List ℕ) → deviceTimeAt (imageOf c) t o ≡ answered (deviceTimeOf c t o)
+  pub join : (j : Joining) → length (j .bytes) ≡ mostBytes → (n : List ℕ) → joinAt (joiningImage j) n ≡ joinedBytes (joinOf j n)
+
+-- `dts_att_error` of the paper's number for an answer is that answer's ATT error.
+abbrev pub Errors : Type 0
+Errors = (a : Answer) → attErrorAt (numberOf a) ≡ pos (attErrorOf a)
