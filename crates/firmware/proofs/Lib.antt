@@ -5,4 +5,3 @@ pub mod ValueLaws
 pub mod JoinLaws
 pub mod TabletLaws
 pub mod StartLaws
-pub mod PromiseLaws

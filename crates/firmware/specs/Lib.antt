@@ -5,5 +5,3 @@ pub mod ValuesRead
 pub mod TabletCalls
 pub mod Errors
 pub mod Start
-pub mod Promises
-pub mod Cases

@@ -4,7 +4,6 @@
 pub mod calls;
 pub mod errors;
 pub mod events;
-pub mod promises;
 mod results;
 pub mod start;
 pub mod tablet_calls;

@@ -1,9 +1,9 @@
 -- Case 1, computed on the definitions.
 -- Assumes nothing.
 use mathlib.Core.Path.{refl}
-use Rattle.firmware.specs.Cases.{start, switches, written}
-use Rattle.firmware.proofs.promises.computed.Statement.{statement}
-use Rattle.firmware.proofs.promises.computed.Tie as tie
+use Rattle.boundary.specs.Cases.{start, switches, written}
+use Rattle.boundary.proofs.promises.computed.Statement.{statement}
+use Rattle.boundary.proofs.promises.computed.Tie as tie
 
 returns : tie.Need-returns
 unfolding start switches written

@@ -52,15 +52,15 @@ use Rattle.image.specs.declared.state.StateRead.{StateRead}
 use Rattle.image.specs.declared.state.StateRead.the-variants as states
 use Rattle.image.proofs.RoundTrip.{state-images}
 use Rattle.image.proofs.JoiningLaws.{joining-images}
 use Rattle.firmware.specs.Results.{refusal, resultOf, stateAfter, fromRead, unlessNoImage, noImage, Ran, ran, settledOf}
 use Rattle.firmware.specs.Start.{StartedBytes, started, shortOf, begunAt, startAt}
 use Rattle.firmware.specs.Events.{eventful, onB, secondsAt, switchesAt, disconnectAt}
 use Rattle.firmware.specs.Calls.{Called, called, unread, replied, notified, faultAt, dtcpAt, racpAt, notifyAt}
 use Rattle.firmware.specs.ValuesRead.{Shown, shown, answered, telling, deviceTimeAt, featureAt, parametersAt}
 use Rattle.firmware.specs.TabletCalls.{JoinedBytes, joinResult, joined, joinedBytes, joinAt, readAt, numbersAfter, carryAt, stampAfter}
 use Rattle.firmware.specs.Errors.{attErrorAt}
-use Rattle.firmware.specs.Promises.{RefusedUnchanged, Composes, Errors}
+use Rattle.boundary.specs.Promises.{RefusedUnchanged, Composes, Errors}
 use Rattle.firmware.proofs.ResultLaws.{result-done}
 
 -- a result below 0 is a refusal, and leaves the state
 below : (a : Answer) (n m : ℕ) → resultOf a n ≡ negsuc m → doneB a ≡ false

@@ -1,8 +1,8 @@
 -- Each entry point's promise is an equation, so two outcomes that meet it are equal.
 -- Assumes nothing.
 use mathlib.Core.Path.{sym, _∙_}
-use Rattle.firmware.proofs.promises.one_outcome.Statement.{statement}
-use Rattle.firmware.proofs.promises.one_outcome.Tie as tie
+use Rattle.boundary.proofs.promises.one_outcome.Statement.{statement}
+use Rattle.boundary.proofs.promises.one_outcome.Tie as tie
 
 returns : tie.Need-returns
 returns c =

@@ -1,8 +1,8 @@
 -- Over images, the calls by value.
 -- Assumes nothing.
-use Rattle.firmware.proofs.PromiseLaws.{composes}
-use Rattle.firmware.proofs.promises.composes.Statement.{statement}
-use Rattle.firmware.proofs.promises.composes.Tie as tie
+use Rattle.boundary.proofs.PromiseLaws.{composes}
+use Rattle.boundary.proofs.promises.composes.Statement.{statement}
+use Rattle.boundary.proofs.promises.composes.Tie as tie
 
 returns : tie.Need-returns
 returns c = composes

@@ -1,8 +1,8 @@
 -- A result below 0 leaves all that is lent, but for joining, which is emptied.
 -- Assumes nothing.
-use Rattle.firmware.proofs.PromiseLaws.{unchanged}
-use Rattle.firmware.proofs.promises.refused_unchanged.Statement.{statement}
-use Rattle.firmware.proofs.promises.refused_unchanged.Tie as tie
+use Rattle.boundary.proofs.PromiseLaws.{unchanged}
+use Rattle.boundary.proofs.promises.refused_unchanged.Statement.{statement}
+use Rattle.boundary.proofs.promises.refused_unchanged.Tie as tie
 
 returns : tie.Need-returns
 returns c = unchanged

@@ -1,7 +1,7 @@
 // What is promised of the entry points beyond each one's own equation: each the promise of an empty function,
 // so that the check asks for its proof.
-ghost use Rattle.firmware.specs.Promises.{OneOutcome, RefusedUnchanged, Composes, Errors};
-ghost use Rattle.firmware.specs.Cases.{Computed};
+ghost use Rattle.boundary.specs.Promises.{OneOutcome, RefusedUnchanged, Composes, Errors};
+ghost use Rattle.boundary.specs.Cases.{Computed};
 
 // No second outcome meets an entry point's promise.
 pub fn one_outcome()
