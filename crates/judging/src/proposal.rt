@@ -5,9 +5,6 @@ ghost use mathlib.Core.Path.{_≡_};
 ghost use lib.ListN.{length};
 ghost use Rattle.judging.specs.Proposal.{updateWriteBytes, proposalAt};
 
-// The opcode and the operand's 10 bytes.
-pub const UPDATE_WRITE_BYTES: usize = 11;
-
 pub struct Proposal {
     // Time_Update_Flags, Table 3.17
     pub flags: u16,

@@ -2,7 +2,6 @@
 use clock::state::Clock;
 use judging::grounds::grounds;
 use judging::proposal::Proposal;
-use judging::proposal::UPDATE_WRITE_BYTES;
 use judging::proposal::proposal_at;
 ghost use mathlib.Core.Path.{_≡_};
 ghost use Prim.Native.Nat.{_≤_};
@@ -13,6 +12,9 @@ ghost use Rattle.update.specs.Decide.{operandOf, decideOf};
 pub const PROPOSE_OPCODE: u8 = 2;
 
 pub const FORCE_OPCODE: u8 = 3;
+
+// The opcode and the operand's 10 bytes.
+const UPDATE_WRITE_BYTES: usize = 11;
 
 pub enum Decision {
     Unsupported,
