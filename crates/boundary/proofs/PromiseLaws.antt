@@ -6,7 +6,7 @@ use mathlib.Core.List.{List}
 use Prim.Native.Nat.{ℕ}
 use borrow.Author.Tests.{eq-eqb, eqb-true}
 use lib.Dec.{eqb}
-use lib.IntN.{ℤ, pos, negsuc, pos-ne-negsuc}
+use lib.IntN.{ℤ, negsuc, pos-ne-negsuc}
 use lib.ListN.{length, replicate}
 use Rattle.octets.specs.Choice.{pick}
 use Rattle.octets.proofs.Tests.{false-by}
@@ -27,9 +27,8 @@ use Rattle.clock.specs.declared.events.Event.{Event}
 use Rattle.clock.specs.declared.state.Clock.{Clock}
 use Rattle.refusals.specs.Outcome.{Outcome, doneB}
 use Rattle.service.specs.Promises.{Untouched}
-use Rattle.service.specs.Start.{Begun, begun, newReaderOf}
+use Rattle.service.specs.Start.{begun, newReaderOf}
 use Rattle.service.proofs.PromiseLaws.{refused-unchanged}
-use Rattle.values.specs.Value.{featureOf, parametersOf}
 use Rattle.values.proofs.ValueLaws as values
 use Rattle.transfer.specs.Notify.{Notice}
 use Rattle.outcomes.specs.OfTransfer.{Silent}
@@ -52,11 +51,11 @@ use Rattle.image.specs.declared.state.StateRead.{StateRead}
 use Rattle.image.specs.declared.state.StateRead.the-variants as states
 use Rattle.image.proofs.RoundTrip.{state-images}
 use Rattle.image.proofs.JoiningLaws.{joining-images}
-use Rattle.firmware.specs.Results.{refusal, resultOf, stateAfter, fromRead, unlessNoImage, noImage, Ran, ran, settledOf}
+use Rattle.firmware.specs.Results.{refusal, resultOf, stateAfter, fromRead, unlessNoImage, Ran, ran, settledOf}
 use Rattle.firmware.specs.Start.{StartedBytes, started, shortOf, begunAt, startAt}
 use Rattle.firmware.specs.Events.{eventful, onB, secondsAt, switchesAt, disconnectAt}
 use Rattle.firmware.specs.Calls.{Called, called, unread, replied, notified, faultAt, dtcpAt, racpAt, notifyAt}
-use Rattle.firmware.specs.ValuesRead.{Shown, shown, answered, telling, deviceTimeAt, featureAt, parametersAt}
+use Rattle.firmware.specs.ValuesRead.{Shown, answered, deviceTimeAt, featureAt, parametersAt}
 use Rattle.firmware.specs.TabletCalls.{JoinedBytes, joinResult, joined, joinedBytes, joinAt, readAt, numbersAfter, carryAt, stampAfter}
 use Rattle.firmware.specs.Errors.{attErrorAt}
 use Rattle.boundary.specs.Promises.{RefusedUnchanged, Composes, Errors}

@@ -1,9 +1,9 @@
 -- The paper's case 1 over bytes, run by the checker on the definitions that the entry points' promises cite: "New reader, switches on; Propose
 -- 800,000,000, epoch 2000, GPS (2), zone 4, DST 0, UTC and qualified-local flags ..: record 0, old 631,152,000, status 0x0016."
 use mathlib.Core.Path.{_≡_}
-use mathlib.Core.List.{List, [], _∷_, _++_}
+use mathlib.Core.List.{List, [], _∷_}
 use Prim.Native.Nat.{ℕ}
-use lib.IntN.{ℤ, pos}
+use lib.IntN.{pos}
 use lib.ListN.{replicate}
 use Rattle.octets.specs.Parts.{part, zerosB, over}
 use Rattle.rules.specs.Rules.{baseB, zoneB, dstB, sourceB, statusB, bitsB}
@@ -26,7 +26,7 @@ use Rattle.refusals.specs.Rows.{firstFailed, wholeB, tableRows, writeRows}
 use Rattle.refusals.specs.Rows as rows
 use Rattle.service.specs.Start.{newReaderOf}
 use Rattle.service.specs.Update.{updateRows, tableAfter, settledOf, effectOf, updateOf}
-use Rattle.image.specs.State.{switchesOf as switchesIn, boundsOf, unsentOf, fieldsOf, fieldBytes, imageOf, filterIn, leftIn, runningIn, clockIn, sameB, imageB, readStateOf}
+use Rattle.image.specs.State.{switchesOf as switchesIn, fieldsOf, fieldBytes, imageOf, runningIn, clockIn, sameB, imageB, readStateOf}
 use Rattle.firmware.specs.Results.{resultOf, stateAfter, Ran}
 use Rattle.firmware.specs.Results as results
 use Rattle.firmware.specs.Start.{StartedBytes, startAt}

@@ -1,6 +1,6 @@
 -- What is promised of the entry points beyond each one's own equation.
 use mathlib.Core.Path.{_≡_}
-use mathlib.Core.Bool.{Bool, true}
+use mathlib.Core.Bool.{true}
 use mathlib.Core.List.{List}
 use Prim.Native.Nat.{ℕ}
 use lib.IntN.{ℤ, pos, negsuc}
@@ -24,8 +24,8 @@ use Rattle.firmware.specs.Results.{Ran}
 use Rattle.firmware.specs.Start.{StartedBytes, started, startAt}
 use Rattle.firmware.specs.Events.{eventful, onB, secondsAt, switchesAt, disconnectAt}
 use Rattle.firmware.specs.Calls.{Called, called, replied, notified, faultAt, dtcpAt, racpAt, notifyAt}
-use Rattle.firmware.specs.ValuesRead.{Shown, shown, answered, deviceTimeAt, featureAt, parametersAt}
-use Rattle.firmware.specs.TabletCalls.{JoinedBytes, joinedBytes, joinAt, ReadNumbers, reading, readAt, CarriedTo, carrying, carryAt}
+use Rattle.firmware.specs.ValuesRead.{Shown, answered, deviceTimeAt, featureAt, parametersAt}
+use Rattle.firmware.specs.TabletCalls.{JoinedBytes, joinedBytes, joinAt, ReadNumbers, readAt, CarriedTo, carryAt}
 use Rattle.firmware.specs.Errors.{attErrorAt}
 use Rattle.firmware.specs.Results.{ran}
 

@@ -2,7 +2,6 @@
 use mathlib.Core.List.{List}
 use Prim.Native.Nat.{ℕ}
 use lib.IntN.{ℤ}
-use Rattle.clock.specs.declared.state.Clock.{Clock}
 use Rattle.refusals.specs.Outcome.{Outcome}
 use Rattle.service.specs.Fault.{faultOf}
 use Rattle.service.specs.Update.{updateOf}

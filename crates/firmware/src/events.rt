@@ -7,7 +7,7 @@ use image::state::StateRead;
 use image::state::read_state;
 ghost use mathlib.Core.Path.{_≡_};
 ghost use Rattle.firmware.specs.Results.{ran};
-ghost use Rattle.firmware.specs.Events.{onB, secondsAt, switchesAt, disconnectAt};
+ghost use Rattle.firmware.specs.Events.{secondsAt, switchesAt, disconnectAt};
 
 // Base_Time rises by n. Refuses: 2, 7.
 #[no_mangle]

@@ -2,13 +2,10 @@
 -- Assumes nothing.
 use mathlib.Core.Path.{_≡_, refl, sym, ap, _∙_}
 use mathlib.Core.Bool.{Bool, true, false}
-use mathlib.Core.List.{List}
-use Prim.Native.Nat.{ℕ, _+_, _*_, _/_, _%_, _<_}
-use native.Mathlib.Omega.{arith}
-use borrow.Author.Tests.{eq-eqb, ne-eqb, eqb-true}
+use Prim.Native.Nat.{ℕ, _+_, _*_, _/_, _%_}
+use borrow.Author.Tests.{eq-eqb, ne-eqb}
 use lib.Dec.{eqb}
 use lib.ListN.{length}
-use Rattle.octets.specs.Numbers.{at, le16, le32}
 use Rattle.octets.proofs.NumberLaws.{two, four}
 use Rattle.octets.proofs.Tests.{both-yes, clash}
 use Rattle.filter.specs.declared.request.Filter.{Filter}
@@ -17,11 +14,10 @@ use Rattle.clock.specs.Rules.{opcodeB, runningB, clockB}
 use Rattle.clock.specs.declared.state.Clock.{Clock}
 use Rattle.clock.specs.declared.state.Left.{Left}
 use Rattle.clock.specs.declared.state.Left.the-variants.{Nothing, From}
-use Rattle.clock.specs.declared.state.Report.{Report}
 use Rattle.clock.specs.declared.state.Running.{Running}
 use Rattle.clock.specs.declared.state.Running.the-variants.{Idle, Reporting}
 use Rattle.clock.proofs.RuleLaws.{clock-reads, running-reads}
-use Rattle.image.specs.State.{stateBytes, switchesOf, boundsOf, unsentOf, fieldsOf, fieldBytes, imageOf, filterIn, leftIn, runningIn, clockIn, sameB, imageB, readStateOf}
+use Rattle.image.specs.State.{stateBytes, switchesOf, boundsOf, unsentOf, fieldsOf, fieldBytes, imageOf, filterIn, leftIn, runningIn, clockIn, sameB, imageB}
 use Rattle.image.specs.Promises.{FilterFits, LeftFits, RunningFits, Fits, StateImages}
 use Rattle.image.specs.declared.state.StateRead.the-variants.{Is}
 use Rattle.image.proofs.SameLaws.{same-makes}

@@ -12,7 +12,6 @@ use Rattle.octets.specs.Parts.{over}
 use Rattle.octets.proofs.Tests.{clash}
 use Rattle.table.specs.Table.{next}
 use Rattle.clock.specs.Answers.{numberOf}
-use Rattle.clock.specs.declared.answers.Answer.{Answer}
 use Rattle.clock.specs.declared.answers.Answer.the-variants.{Done, OutputShort}
 use Rattle.clock.specs.declared.state.Clock.{Clock}
 use Rattle.refusals.specs.Outcome.{Outcome, doneB, refused, answered}

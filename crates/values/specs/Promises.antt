@@ -1,6 +1,6 @@
 -- What is promised of the values beyond each call's own equation.
 use mathlib.Core.Path.{_≡_}
-use mathlib.Core.Bool.{true, false}
+use mathlib.Core.Bool.{false}
 use mathlib.Core.List.{List}
 use Prim.Native.Nat.{ℕ}
 use Rattle.clock.specs.declared.state.Clock.{Clock}

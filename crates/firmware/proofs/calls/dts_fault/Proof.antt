@@ -1,6 +1,5 @@
 -- No image: 1 or 2. Else `faultOf` of the clock that was read, and the state settled by its reply.
 -- Assumes nothing.
-use mathlib.Core.Path.{_≡_, sym, ap, _∙_}
 use mir.Facts.{toZ-ofZ}
 use Rattle.clock.specs.declared.state.Clock.{Clock}
 use Rattle.service.specs.Fault.{faultOf}

@@ -1,6 +1,5 @@
 -- No image: 1 or 2. Else `notifyOf` of the clock that was read, and the state settled by what was said.
 -- Assumes nothing.
-use mathlib.Core.Path.{_≡_, sym, ap, _∙_}
 use mir.Facts.{toZ-ofZ}
 use Rattle.clock.specs.declared.state.Clock.{Clock}
 use Rattle.transfer.specs.Notify.{notifyOf}

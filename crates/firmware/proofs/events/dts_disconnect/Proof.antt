@@ -1,9 +1,8 @@
 -- No image: 2. Else `disconnectOf` of the clock that was read.
 -- Assumes nothing.
-use mathlib.Core.Path.{_≡_, sym, ap, _∙_}
+use mathlib.Core.Path.{sym, ap, _∙_}
 use lib.IntN.{ℤ}
 use mir.Facts.{toZ-ofZ}
-use mir.Syntax.{w32}
 use Rattle.clock.specs.Events.{disconnectOf}
 use Rattle.clock.specs.declared.events.Event.{Event}
 use Rattle.clock.specs.declared.state.Clock.{Clock}

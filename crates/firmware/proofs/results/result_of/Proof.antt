@@ -1,6 +1,6 @@
 -- Minus the number, or the length, which fits.
 -- Assumes nothing.
-use mathlib.Core.Path.{_≡_, sym, ap, _∙_}
+use mathlib.Core.Path.{sym, ap, _∙_}
 use borrow.Author.Tests.{not-true, not-false}
 use mir.Facts.{toZ-pos, toZ-ofZ}
 use mir.Syntax.{w32}

@@ -1,6 +1,6 @@
 -- Another length: 10 and zeros. Else `joinOf` of the state that was read, and its image.
 -- Assumes nothing.
-use mathlib.Core.Path.{_≡_, sym, ap, _∙_}
+use mathlib.Core.Path.{sym, ap, _∙_}
 use lib.ListN.{length}
 use mir.Facts.{toZ-ofZ}
 use Rattle.image.proofs.JoiningLaws.{joining-images}

@@ -1,6 +1,6 @@
 -- Answer by answer.
 -- Assumes nothing.
-use mathlib.Core.Path.{_≡_, sym, ap, _∙_}
+use mathlib.Core.Path.{sym, ap, _∙_}
 use mir.Facts.{toZ-pos}
 use mir.Syntax.{w32}
 use Rattle.tablet.specs.declared.joining.Answer.{Answer}

@@ -1,6 +1,6 @@
 -- No image: 1 or 2. Else `deviceTimeOf` of the clock that was read, with its result.
 -- Assumes nothing.
-use mathlib.Core.Path.{_≡_, sym, ap, _∙_}
+use mathlib.Core.Path.{sym, ap, _∙_}
 use lib.IntN.{ℤ}
 use mir.Facts.{toZ-ofZ}
 use Rattle.clock.specs.declared.state.Clock.{Clock}

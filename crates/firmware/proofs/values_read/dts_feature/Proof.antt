@@ -1,6 +1,6 @@
 -- `featureOf`, with its result.
 -- Assumes nothing.
-use mathlib.Core.Path.{_≡_, sym, ap, _∙_}
+use mathlib.Core.Path.{_∙_}
 use mir.Facts.{toZ-ofZ}
 use Rattle.firmware.specs.ValuesRead.{featureAt}
 use Rattle.firmware.proofs.LengthLaws.{told-short, feature-short}

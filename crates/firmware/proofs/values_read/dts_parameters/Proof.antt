@@ -1,6 +1,6 @@
 -- `parametersOf`, with its result.
 -- Assumes nothing.
-use mathlib.Core.Path.{_≡_, sym, ap, _∙_}
+use mathlib.Core.Path.{_∙_}
 use mir.Facts.{toZ-ofZ}
 use Rattle.firmware.specs.ValuesRead.{parametersAt}
 use Rattle.firmware.proofs.LengthLaws.{told-short, parameters-short}

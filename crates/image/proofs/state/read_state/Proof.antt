@@ -1,6 +1,6 @@
 -- `read_state` is `readStateOf`: the length, then what the clock is written as.
 -- Assumes nothing.
-use mathlib.Core.Path.{sym, ap, _∙_}
+use mathlib.Core.Path.{sym}
 use borrow.Author.Tests.{not-true, not-false}
 use Rattle.image.proofs.StateLaws.{read-short, read-differs, read-image}
 use borrow.Author.Needs.{needs}

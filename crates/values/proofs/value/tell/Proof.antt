@@ -1,9 +1,7 @@
 -- `tell` is `toldOf`: row 3, then the bytes.
 -- Assumes nothing.
-use mathlib.Core.Path.{_≡_, sym, ap, _∙_}
+use mathlib.Core.Path.{_≡_, sym}
 use lib.ListN.{length}
-use Rattle.clock.specs.declared.answers.Answer.the-variants.{Done}
-use Rattle.values.specs.Value.{told, value}
 use Rattle.values.proofs.ValueLaws.{told-short, told-done}
 use borrow.Author.Needs.{needs}
 use Rattle.values.proofs.value.tell.Statement.{statement}
