@@ -162,7 +162,7 @@ pub fn image_of(c: Clock) -> [u8; 32]
     ]
 }
 
-// Of an operator outside 1 to 6 nothing comes of it: it is not written back as it stands.
+// An operator outside 1 to 6 is read as All, which is written back as 1: such bytes are no image.
 fn filter_in(operator: u8, minimum: u16, maximum: u16) -> Filter
     ensures { λ r. ⌜ r ≡ filterIn operator minimum maximum ⌝ }
 {
