@@ -1,9 +1,10 @@
-//! The archive's times over the reference's, in one run: `bench COMMAND..`, where the command
+//! The reference's times over the proved code's, in one run: `bench COMMAND..`, where the command
 //! runs tests/c/bench.c and prints a name and nanoseconds a line.
 
 #![forbid(unsafe_code)]
 
 use reference::image::STATE_BYTES;
+use reference::joining::JOINING_BYTES;
 use reference::notify::CLOSING;
 use reference::numbers::PAPER;
 use reference::reader::{Reader, Reference};
@@ -13,6 +14,8 @@ use std::process::Command;
 use std::time::Instant;
 
 const ROUNDS: usize = 5;
+/// Where the joined bytes begin in a joining state.
+const RECORD_AT: usize = 3;
 const FORCE: [u8; 11] = [0x03, 0x43, 0x00, 0x00, 0x08, 0xAF, 0x2F, 0x04, 0x00, 0x02, 0x01];
 
 /// A reader with its buffers.
@@ -45,10 +48,44 @@ impl Bench {
         black_box(carried);
     }
 
-    fn report(&mut self) {
+    fn begin(&mut self) {
         let Bench { reader, state, table, out } = self;
         assert_eq!(reader.racp_write(state, table, &[0x01, 0x01], out), 0);
-        while reader.notify(state, black_box(table), PAPER.smallest_payload, out) < CLOSING {}
+    }
+
+    fn next(&mut self) -> i32 {
+        let Bench { reader, state, table, out } = self;
+        reader.notify(state, black_box(table), PAPER.smallest_payload, out)
+    }
+
+    fn report(&mut self) {
+        self.begin();
+        while self.next() < CLOSING {}
+    }
+
+    /// The segments of the report, so that joining them can be timed alone.
+    fn heard(&mut self) -> Vec<Vec<u8>> {
+        self.begin();
+        let segment = |_| {
+            let length = self.next();
+            (length < CLOSING).then(|| self.out[..length as usize].to_vec())
+        };
+        (0..).map_while(segment).collect()
+    }
+
+    fn joining(&self, heard: &[Vec<u8>]) {
+        let (mut joining, mut fields) = ([0; JOINING_BYTES], [0; 11]);
+        let mut records = 0;
+        for segment in heard {
+            let length = self.reader.join(&mut joining, black_box(segment));
+            if length > 0 {
+                let record = &joining[RECORD_AT..RECORD_AT + length as usize];
+                assert_eq!(self.reader.read(record, &mut fields), 0);
+                black_box(fields);
+                records += 1;
+            }
+        }
+        assert_eq!(records, PAPER.most_slots);
     }
 }
 
@@ -74,6 +111,10 @@ fn of_the_reference(name: &str) -> f64 {
         "soundness" => measure(1_000, || large.carry(slots)),
         "carrying" => measure(1_000, || large.carry(0)),
         "report" => measure(1, || large.report()),
+        "joining" => {
+            let heard = large.heard();
+            measure(100, || large.joining(&heard))
+        }
         other => panic!("no measure named {other}"),
     }
 }
@@ -85,9 +126,9 @@ fn main() {
     assert!(output.status.success(), "{}", String::from_utf8_lossy(&output.stdout));
     for line in String::from_utf8_lossy(&output.stdout).lines() {
         let (name, nanoseconds) = line.split_once(' ').expect("a name and nanoseconds");
-        let archive: f64 = nanoseconds.parse().expect("a number");
+        let proved: f64 = nanoseconds.parse().expect("a number");
         let reference = of_the_reference(name);
-        let ratio = archive / reference;
-        println!("{name}: archive {archive:.0} ns, reference {reference:.0} ns, ratio {ratio:.2}");
+        let ratio = reference / proved;
+        println!("{name}: proved {proved:.0} ns, reference {reference:.0} ns, ratio {ratio:.2}");
     }
 }
