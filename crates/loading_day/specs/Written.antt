@@ -1,4 +1,4 @@
--- A happening written as one number: from its highest part down the antenna, the event, and below 2^32 the event's own number.
+-- A happening written as one number: an antenna's place times 2^35, an event's place times 2^32, and the event's own number.
 use mathlib.Core.List.{List, map}
 use Prim.Native.Nat.{ℕ, _/_, _%_}
 use lib.Dec.{eqb}
@@ -10,15 +10,15 @@ use Rattle.day.specs.declared.reader.Event.{Event}
 use Rattle.day.specs.declared.reader.Event.the-variants.{Seconds, Connect, Disconnect, Propose, Fault, Read}
 
 unfoldable pub antennaOf : ℕ → Antenna
-antennaOf a = pick (eqb a 1) Left (pick (eqb a 2) Right Both)
+antennaOf place = pick (eqb place 1) Left (pick (eqb place 2) Right Both)
 
 unfoldable pub eventOf : ℕ → ℕ → Event
-eventOf e n =
-    pick (eqb e 1) (Seconds n)
-    (pick (eqb e 2) Connect
-    (pick (eqb e 3) Disconnect
-    (pick (eqb e 4) (Propose n)
-    (pick (eqb e 5) Fault
+eventOf place n =
+    pick (eqb place 1) (Seconds n)
+    (pick (eqb place 2) Connect
+    (pick (eqb place 3) Disconnect
+    (pick (eqb place 4) (Propose n)
+    (pick (eqb place 5) Fault
     (Read (n % 256))))))
 
 unfoldable pub happeningOf : ℕ → Happening

@@ -75,12 +75,14 @@ const DAY: [u64; 46] = [
 // The beasts' ear tags, by their places in the list.
 const TAGS: [u16; 8] = [4101, 4102, 4103, 4104, 4105, 4106, 4107, 4108];
 
+// The day as it is written.
 fn numbers() -> [u64; 46]
     ensures { λ r. ⌜ happeningsOf r ≡ theDay ⌝ }
 {
     DAY
 }
 
+// The day read from its numbers, one after the other.
 pub fn day() -> [Happening; 46]
     ensures { λ r. ⌜ r ≡ theDay ⌝ }
 {

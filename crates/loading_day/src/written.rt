@@ -1,43 +1,48 @@
-// A happening written as one number, since a day of such numbers is one row: an antenna, an event and, below 2^32, the
-// event's own number are added up.
+// A happening written as one number, `LEFT + READ + 3`: an antenna, an event and the event's own number, added up.
+// A day is then one row of numbers, which is proved in a moment; of a row of structs every line would be a step.
 use day::play::Antenna;
 use day::play::Happening;
 use day::reader::Event;
 ghost use mathlib.Core.Path.{_≡_};
 ghost use Rattle.loading_day.specs.Written.{antennaOf, eventOf, happeningOf};
 
-pub const LEFT: u64 = 1 << 35;
+// An event's own number is below the first, an event's place in the list of events below the second.
+const EVENT: u64 = 4294967296;
 
-pub const RIGHT: u64 = 2 << 35;
+const ANTENNA: u64 = 8 * EVENT;
 
-pub const BOTH: u64 = 3 << 35;
+pub const LEFT: u64 = ANTENNA;
 
-pub const SECONDS: u64 = 1 << 32;
+pub const RIGHT: u64 = 2 * ANTENNA;
 
-pub const CONNECT: u64 = 2 << 32;
+pub const BOTH: u64 = 3 * ANTENNA;
 
-pub const DISCONNECT: u64 = 3 << 32;
+pub const SECONDS: u64 = EVENT;
 
-pub const PROPOSE: u64 = 4 << 32;
+pub const CONNECT: u64 = 2 * EVENT;
 
-pub const FAULT: u64 = 5 << 32;
+pub const DISCONNECT: u64 = 3 * EVENT;
 
-pub const READ: u64 = 6 << 32;
+pub const PROPOSE: u64 = 4 * EVENT;
 
-fn antenna(a: u64) -> Antenna
-    ensures { λ r. ⌜ r ≡ antennaOf a ⌝ }
+pub const FAULT: u64 = 5 * EVENT;
+
+pub const READ: u64 = 6 * EVENT;
+
+fn antenna(place: u64) -> Antenna
+    ensures { λ r. ⌜ r ≡ antennaOf place ⌝ }
 {
-    match a {
+    match place {
         1 => Antenna::Left,
         2 => Antenna::Right,
         _ => Antenna::Both,
     }
 }
 
-fn event(e: u64, n: u32) -> Event
-    ensures { λ r. ⌜ r ≡ eventOf e n ⌝ }
+fn event(place: u64, n: u32) -> Event
+    ensures { λ r. ⌜ r ≡ eventOf place n ⌝ }
 {
-    match e {
+    match place {
         1 => Event::Seconds(n),
         2 => Event::Connect,
         3 => Event::Disconnect,
@@ -47,11 +52,11 @@ fn event(e: u64, n: u32) -> Event
     }
 }
 
-pub fn happening(w: u64) -> Happening
-    ensures { λ r. ⌜ r ≡ happeningOf w ⌝ }
+pub fn happening(number: u64) -> Happening
+    ensures { λ r. ⌜ r ≡ happeningOf number ⌝ }
 {
     Happening {
-        at: antenna(w / 34359738368),
-        event: event(w / 4294967296 % 8, (w % 4294967296) as u32),
+        at: antenna(number / ANTENNA),
+        event: event(number / EVENT % 8, (number % EVENT) as u32),
     }
 }

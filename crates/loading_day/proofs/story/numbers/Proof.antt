@@ -1,4 +1,4 @@
--- One thing after the other.
+-- The numbers, read one after the other, by computing.
 -- Assumes nothing.
 use mathlib.Core.Path.{refl}
 use Rattle.loading_day.specs.Story.{theDay}
