@@ -154,15 +154,16 @@ fn play_notify(clock: Clock, t: &[u8], p: u32, room: usize) -> Clock {
     notify_into(clock, t, p, &mut out[0..room])
 }
 
-fn joining_of(phase: u8, counter: u8, len: u8, from: &[u8]) -> Joining {
+fn joining_of(command: &[u8]) -> Joining {
+    let from = rest(command, 4);
     let mut bytes = [0u8; 45];
     if from.len() <= 45 {
         put(&mut bytes, 0, from);
     }
     Joining {
-        phase,
-        counter,
-        len,
+        phase: byte_at(command, 1),
+        counter: byte_at(command, 2),
+        len: byte_at(command, 3),
         bytes,
     }
 }
@@ -356,10 +357,8 @@ fn play_set(clock: Clock, t: &[u8], command: &[u8]) -> Clock {
 }
 
 fn play_joining(joining: Joining, command: &[u8]) -> Joining {
-    let counter = byte_at(command, 2);
-    let len = byte_at(command, 3);
     match byte_at(command, 0) {
-        0x20 => set_joining(joining_of(byte_at(command, 1), counter, len, rest(command, 4))),
+        0x20 => set_joining(joining_of(command)),
         0x21 => play_join(joining, rest(command, 1)),
         _ => joining,
     }
