@@ -1,5 +1,6 @@
-// The story: an ordinary loading day, as data. Both clocks run all day, so seconds pass at both antennas. The time
-// fault comes early: of the reader that it befalls no stamp taken before it can be carried.
+// The story: an ordinary loading day, as data, each happening written as one number (written.rt). Both clocks run all day,
+// so seconds pass at both antennas. The time fault comes early: of the reader that it befalls no stamp taken before it
+// can be carried.
 use crate::written::BOTH;
 use crate::written::CONNECT;
 use crate::written::DISCONNECT;

@@ -1,12 +1,12 @@
 // A happening written as one number, `LEFT + READ + 3`: an antenna, an event and the event's own number, added up.
-// A day is then one row of numbers, which is proved in a moment; of a row of structs every line would be a step.
+// A day is then one row of numbers and proved as one step; in a row of structs each part of each struct is a step.
 use day::play::Antenna;
 use day::play::Happening;
 use day::reader::Event;
 ghost use mathlib.Core.Path.{_≡_};
 ghost use Rattle.loading_day.specs.Written.{antennaOf, eventOf, happeningOf};
 
-// An event's own number is below the first, an event's place in the list of events below the second.
+// An event's own number is less than EVENT; an event's place times EVENT is less than ANTENNA.
 const EVENT: u64 = 4294967296;
 
 const ANTENNA: u64 = 8 * EVENT;
