@@ -38,11 +38,10 @@ use Rattle.tablet.specs.declared.joining.Joined.{Joined}
 use Rattle.carry.specs.Carry.{carryOf}
 use Rattle.carry.specs.declared.stamp.Carried.{Carried}
 use Rattle.sheet.specs.declared.text.Sight.the-variants.{Missed, Seen}
-use Rattle.evening.specs.Fetch.{loggedIn, readIn, keptIn, fetch, askedOf, heardOf, heardAll, finishedOf, reportOf, fetchedOf, sightOf}
+use Rattle.evening.specs.Fetch.{loggedIn, readIn, keptIn, fetch, askedOf, heardOf, heardAll, sightOf}
 use Rattle.day.specs.Reader.{output}
 use Rattle.evening.specs.declared.fetch.Fetch.{Fetch}
 use Rattle.day.specs.declared.reader.Note.{Note}
-use Rattle.day.specs.declared.reader.Reader.{Reader}
 
 module _ (c : Clock) (t : List ℕ) (p : ℕ) (o : List ℕ) where
   said-fits : (r : Report) (l : Left) → 20 ≤ p → p ≤ length o → length (saidOf c t (p - 1) r l .bytes) ≤ length o
@@ -123,7 +122,3 @@ module _ (t : List ℕ) (f : Fetch) where
         → fetch (n .clock) (x .joining) b false ≡ heardOf t f
     unfolding heardOf
     segment h j k = rw (running, ← e, h, ← j, k)
-
-pub fetched-whole : (r : Reader) {t : List ℕ} → reportOf r .closed ≡ true → reportOf r .copy ≡ t → fetchedOf r ≡ t
-unfolding fetchedOf finishedOf
-fetched-whole r h e = rw h e

@@ -1,2 +1,3 @@
 pub mod PageLaws
 pub mod PrintedLaws
+pub mod WrittenLaws

@@ -1,38 +1,56 @@
--- The sheet and the tables of the story, computed.
+-- The sheet and the tables of the story, computed as one test, so that the checker plays the day only once.
 -- Assumes nothing.
 use mathlib.Core.Path.{_≡_, refl}
-use mathlib.Core.Bool.{true}
+use mathlib.Core.Bool.{Bool, true, false}
+use mathlib.Core.List.{List, [], _∷_}
+use Prim.Native.Nat.{ℕ}
+use borrow.Author.Tests.{eqb-true}
+use lib.Dec.{eqb}
+use Rattle.octets.specs.Choice.{both}
+use Rattle.octets.proofs.Tests.{clash, both-reads}
 use Rattle.day.specs.Play.{openedOf, playedOf}
-use Rattle.evening.specs.Fetch.{reportOf}
-use Rattle.evening.proofs.FetchLaws.{fetched-whole}
+use Rattle.day.specs.declared.play.Ramp.{Ramp}
+use Rattle.evening.specs.Fetch.{fetchedOf}
 use Rattle.loading_day.specs.Story.{theDay, theTags}
-use Rattle.loading_day.specs.Page.{sheetOf}
+use Rattle.loading_day.specs.Page.{eveningOf, sheetOf}
 use Rattle.loading_day.specs.Printed.{theSheet, joinedLines, printed, Printed}
 
-the-text : sheetOf theDay theTags ≡ joinedLines printed
-unfolding theSheet joinedLines printed
-the-text = refl
+-- are two byte strings the same?
+unfoldable sameB : List ℕ → List ℕ → Bool
+sameB [] [] = true
+sameB [] (b ∷ y) = false
+sameB (a ∷ x) [] = false
+sameB (a ∷ x) (b ∷ y) = both (eqb a b) (sameB x y)
 
-left-closed : reportOf (playedOf openedOf theDay .left) .closed ≡ true
-unfolding theSheet
-left-closed = refl
+same-reads : (x y : List ℕ) → sameB x y ≡ true → x ≡ y
+unfolding sameB
+same-reads [] [] h = refl
+same-reads [] (b ∷ y) h = absurd (clash false h refl)
+same-reads (a ∷ x) [] h = absurd (clash false h refl)
+same-reads (a ∷ x) (b ∷ y) h =
+    let r = both-reads (eqb a b) (sameB x y) h in rw (eqb-true a b (r .0), same-reads x y (r .1))
 
-left-copied : reportOf (playedOf openedOf theDay .left) .copy ≡ playedOf openedOf theDay .left .table
-unfolding theSheet
-left-copied = refl
+-- on a ramp in the evening: the text printed, and both tables as the tablet fetched them
+unfoldable printedB : Ramp → Bool
+unfolding sameB
+printedB v =
+    both (sameB (eveningOf theTags v) (joinedLines printed))
+    (both (sameB (fetchedOf (v .left)) (v .left .table))
+    (sameB (fetchedOf (v .right)) (v .right .table)))
 
-right-closed : reportOf (playedOf openedOf theDay .right) .closed ≡ true
-unfolding theSheet
-right-closed = refl
+printed-reads : (v : Ramp) → printedB v ≡ true
+    → (eveningOf theTags v ≡ joinedLines printed) × (fetchedOf (v .left) ≡ v .left .table) × (fetchedOf (v .right) ≡ v .right .table)
+unfolding printedB
+printed-reads v h =
+    let r = both-reads _ _ h in
+    let s = both-reads _ _ (r .1) in
+    (same-reads _ _ (r .0), same-reads _ _ (s .0), same-reads _ _ (s .1))
 
-right-copied : reportOf (playedOf openedOf theDay .right) .copy ≡ playedOf openedOf theDay .right .table
-unfolding theSheet
-right-copied = refl
+the-day-printed : printedB (playedOf openedOf theDay) ≡ true
+unfolding printedB theSheet joinedLines printed
+the-day-printed = refl
 
 pub computed : Printed
+unfolding sheetOf
 computed =
-    record {
-      text = the-text;
-      left = fetched-whole (playedOf openedOf theDay .left) left-closed left-copied;
-      right = fetched-whole (playedOf openedOf theDay .right) right-closed right-copied;
-    }
+    let r = printed-reads (playedOf openedOf theDay) the-day-printed in record { text = r .0; left = r .1; right = r .2 }

@@ -1,3 +1,4 @@
 pub mod Story
+pub mod Written
 pub mod Page
 pub mod Printed

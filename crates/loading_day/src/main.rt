@@ -1,6 +1,7 @@
 // The loading day: plays an ordinary day on a ramp of two antennas and prints the drivers' sheet.
 mod page;
 mod story;
+mod written;
 
 use page::Page;
 use page::sheet;

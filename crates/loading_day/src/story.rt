@@ -1,213 +1,100 @@
-// The story: an ordinary loading day, as data. Both clocks run all day, so seconds pass at both antennas. The time
-// fault comes early: of the reader that it befalls no stamp taken before it can be carried.
-use day::play::Antenna;
+// The story: an ordinary loading day, as data, each happening written as one number (written.rt). Both clocks run all day,
+// so seconds pass at both antennas. The time fault comes early: of the reader that it befalls no stamp taken before it
+// can be carried.
+use crate::written::BOTH;
+use crate::written::CONNECT;
+use crate::written::DISCONNECT;
+use crate::written::FAULT;
+use crate::written::LEFT;
+use crate::written::PROPOSE;
+use crate::written::READ;
+use crate::written::RIGHT;
+use crate::written::SECONDS;
+use crate::written::happening;
 use day::play::Happening;
-use day::reader::Event;
 ghost use mathlib.Core.Path.{_≡_};
 ghost use Rattle.loading_day.specs.Story.{theDay, theTags};
 ghost use Rattle.loading_day.specs.Printed.{Printed};
+ghost use Rattle.loading_day.specs.Written.{happeningsOf};
 
-const DAY: [Happening; 46] = [
+const DAY: [u64; 46] = [
     // Six o'clock: the tablet in the cab sets both clocks. It is ten minutes fast when it sets the left one.
-    Happening {
-        at: Antenna::Both,
-        event: Event::Connect,
-    },
-    Happening {
-        at: Antenna::Left,
-        event: Event::Propose(844495800),
-    },
-    Happening {
-        at: Antenna::Right,
-        event: Event::Propose(844495200),
-    },
-    Happening {
-        at: Antenna::Both,
-        event: Event::Disconnect,
-    },
+    BOTH + CONNECT,
+    LEFT + PROPOSE + 844495800,
+    RIGHT + PROPOSE + 844495200,
+    BOTH + DISCONNECT,
     // Half past six: the first beast.
-    Happening {
-        at: Antenna::Both,
-        event: Event::Seconds(1800),
-    },
-    Happening {
-        at: Antenna::Left,
-        event: Event::Read(0),
-    },
-    Happening {
-        at: Antenna::Both,
-        event: Event::Seconds(3),
-    },
-    Happening {
-        at: Antenna::Right,
-        event: Event::Read(0),
-    },
+    BOTH + SECONDS + 1800,
+    LEFT + READ + 0,
+    BOTH + SECONDS + 3,
+    RIGHT + READ + 0,
     // The right reader loses its time, and a beast passes before it is set again.
-    Happening {
-        at: Antenna::Both,
-        event: Event::Seconds(57),
-    },
-    Happening {
-        at: Antenna::Right,
-        event: Event::Fault,
-    },
-    Happening {
-        at: Antenna::Both,
-        event: Event::Seconds(20),
-    },
-    Happening {
-        at: Antenna::Left,
-        event: Event::Read(1),
-    },
-    Happening {
-        at: Antenna::Both,
-        event: Event::Seconds(4),
-    },
-    Happening {
-        at: Antenna::Right,
-        event: Event::Read(1),
-    },
-    Happening {
-        at: Antenna::Both,
-        event: Event::Seconds(36),
-    },
-    Happening {
-        at: Antenna::Right,
-        event: Event::Connect,
-    },
-    Happening {
-        at: Antenna::Right,
-        event: Event::Propose(844497120),
-    },
-    Happening {
-        at: Antenna::Right,
-        event: Event::Disconnect,
-    },
+    BOTH + SECONDS + 57,
+    RIGHT + FAULT,
+    BOTH + SECONDS + 20,
+    LEFT + READ + 1,
+    BOTH + SECONDS + 4,
+    RIGHT + READ + 1,
+    BOTH + SECONDS + 36,
+    RIGHT + CONNECT,
+    RIGHT + PROPOSE + 844497120,
+    RIGHT + DISCONNECT,
     // Two more.
-    Happening {
-        at: Antenna::Both,
-        event: Event::Seconds(30),
-    },
-    Happening {
-        at: Antenna::Left,
-        event: Event::Read(2),
-    },
-    Happening {
-        at: Antenna::Both,
-        event: Event::Seconds(5),
-    },
-    Happening {
-        at: Antenna::Right,
-        event: Event::Read(2),
-    },
-    Happening {
-        at: Antenna::Both,
-        event: Event::Seconds(55),
-    },
-    Happening {
-        at: Antenna::Left,
-        event: Event::Read(3),
-    },
-    Happening {
-        at: Antenna::Both,
-        event: Event::Seconds(4),
-    },
-    Happening {
-        at: Antenna::Right,
-        event: Event::Read(3),
-    },
+    BOTH + SECONDS + 30,
+    LEFT + READ + 2,
+    BOTH + SECONDS + 5,
+    RIGHT + READ + 2,
+    BOTH + SECONDS + 55,
+    LEFT + READ + 3,
+    BOTH + SECONDS + 4,
+    RIGHT + READ + 3,
     // The left clock is set back by ten minutes while a beast stands between the antennas.
-    Happening {
-        at: Antenna::Both,
-        event: Event::Seconds(26),
-    },
-    Happening {
-        at: Antenna::Left,
-        event: Event::Read(4),
-    },
-    Happening {
-        at: Antenna::Both,
-        event: Event::Seconds(2),
-    },
-    Happening {
-        at: Antenna::Left,
-        event: Event::Connect,
-    },
-    Happening {
-        at: Antenna::Left,
-        event: Event::Propose(844497242),
-    },
-    Happening {
-        at: Antenna::Left,
-        event: Event::Disconnect,
-    },
-    Happening {
-        at: Antenna::Both,
-        event: Event::Seconds(3),
-    },
-    Happening {
-        at: Antenna::Right,
-        event: Event::Read(4),
-    },
+    BOTH + SECONDS + 26,
+    LEFT + READ + 4,
+    BOTH + SECONDS + 2,
+    LEFT + CONNECT,
+    LEFT + PROPOSE + 844497242,
+    LEFT + DISCONNECT,
+    BOTH + SECONDS + 3,
+    RIGHT + READ + 4,
     // The rest: one that the right antenna misses, and one that goes backwards.
-    Happening {
-        at: Antenna::Both,
-        event: Event::Seconds(55),
-    },
-    Happening {
-        at: Antenna::Left,
-        event: Event::Read(5),
-    },
-    Happening {
-        at: Antenna::Both,
-        event: Event::Seconds(4),
-    },
-    Happening {
-        at: Antenna::Right,
-        event: Event::Read(5),
-    },
-    Happening {
-        at: Antenna::Both,
-        event: Event::Seconds(56),
-    },
-    Happening {
-        at: Antenna::Left,
-        event: Event::Read(6),
-    },
-    Happening {
-        at: Antenna::Both,
-        event: Event::Seconds(60),
-    },
-    Happening {
-        at: Antenna::Right,
-        event: Event::Read(7),
-    },
-    Happening {
-        at: Antenna::Both,
-        event: Event::Seconds(6),
-    },
-    Happening {
-        at: Antenna::Left,
-        event: Event::Read(7),
-    },
+    BOTH + SECONDS + 55,
+    LEFT + READ + 5,
+    BOTH + SECONDS + 4,
+    RIGHT + READ + 5,
+    BOTH + SECONDS + 56,
+    LEFT + READ + 6,
+    BOTH + SECONDS + 60,
+    RIGHT + READ + 7,
+    BOTH + SECONDS + 6,
+    LEFT + READ + 7,
     // Half past five in the evening: the tablet comes for the logs.
-    Happening {
-        at: Antenna::Both,
-        event: Event::Seconds(39174),
-    },
-    Happening {
-        at: Antenna::Both,
-        event: Event::Connect,
-    },
+    BOTH + SECONDS + 39174,
+    BOTH + CONNECT,
 ];
 
 // The beasts' ear tags, by their places in the list.
 const TAGS: [u16; 8] = [4101, 4102, 4103, 4104, 4105, 4106, 4107, 4108];
 
+// The day as it is written.
+fn numbers() -> [u64; 46]
+    ensures { λ r. ⌜ happeningsOf r ≡ theDay ⌝ }
+{
+    DAY
+}
+
+// The day read from its numbers, one after the other.
 pub fn day() -> [Happening; 46]
     ensures { λ r. ⌜ r ≡ theDay ⌝ }
 {
-    DAY
+    let numbers = numbers();
+    let mut day = [happening(numbers[0]); 46];
+    let mut k = 0;
+    while k < 46 {
+        day[k] = happening(numbers[k]);
+        k += 1;
+    }
+    day
 }
 
 pub fn tags() -> [u16; 8]

@@ -1,4 +1,5 @@
-// The commands of a script, listed at the head of main.rt.
+// The commands of a script, listed at the head of main.rt. A command belongs to one of the functions `play_..` and `tell`
+// at the end; the others pass it over.
 use crate::print::end_line;
 use crate::print::print_answer;
 use crate::print::print_bytes;
@@ -44,60 +45,44 @@ pub struct Play {
     pub joining: Joining,
 }
 
-fn with_clock(s: Play, clock: Clock) -> Play {
-    let joining = s.joining;
-    Play {
-        clock,
-        size: s.size,
-        joining,
-    }
-}
-
 // The end of every call's line.
-fn show(s: Play, t: &[u8]) {
-    let clock = s.clock;
-    let size = s.size;
+fn show(clock: Clock, t: &[u8]) {
     print_clock(clock);
-    if size <= t.len() {
-        print_table(&t[0..size]);
-    }
+    print_table(t);
     end_line();
 }
 
 // What a command set up, so that the next call's line shows what it changed.
-fn told(s: Play, t: &[u8]) -> Play {
+fn told(clock: Clock, t: &[u8]) -> Clock {
     print_set();
-    show(s, t);
-    s
+    show(clock, t);
+    clock
 }
 
-fn happened(s: Play, t: &[u8], e: Event) -> Play {
+fn happened(t: &[u8], e: Event) -> Clock {
     let answer = e.answer;
     let clock = e.clock;
-    let after = with_clock(s, clock);
     print_answer(answer);
-    show(after, t);
-    after
+    show(clock, t);
+    clock
 }
 
-fn replied(s: Play, t: &[u8], r: Reply, out: &[u8]) -> Play {
+fn replied(t: &[u8], r: Reply, out: &[u8]) -> Clock {
     let answer = r.answer;
     let clock = r.clock;
-    let after = with_clock(s, clock);
     print_answer(answer);
     print_response(out, r.len);
-    show(after, t);
-    after
+    show(clock, t);
+    clock
 }
 
-fn notified(s: Play, t: &[u8], n: Notified, out: &[u8]) -> Play {
+fn notified(t: &[u8], n: Notified, out: &[u8]) -> Clock {
     let answer = n.answer;
     let clock = n.clock;
-    let after = with_clock(s, clock);
     print_answer(answer);
     print_notice(n.closes, out, n.len);
-    show(after, t);
-    after
+    show(clock, t);
+    clock
 }
 
 fn fill(t: &mut [u8]) {
@@ -108,156 +93,106 @@ fn fill(t: &mut [u8]) {
     }
 }
 
-fn play_start(s: Play, t: &mut [u8], size: usize) -> Play {
-    if t.len() < size {
-        return s;
-    }
-    fill(t);
-    let e = start(&mut t[0..size]);
-    happened(set_size(s, size), t, e)
+fn play_start(t: &mut [u8]) -> Clock {
+    let e = start(t);
+    happened(t, e)
 }
 
-fn play_seconds(s: Play, t: &[u8], n: u32) -> Play {
-    let clock = s.clock;
-    happened(s, t, seconds(clock, n))
+fn play_switches(clock: Clock, t: &[u8], dtcp: u8, racp: u8, log: u8) -> Clock {
+    happened(t, switches(clock, dtcp != 0, racp != 0, log != 0))
 }
 
-fn play_switches(s: Play, t: &[u8], dtcp: u8, racp: u8, log: u8) -> Play {
-    let clock = s.clock;
-    happened(s, t, switches(clock, dtcp != 0, racp != 0, log != 0))
+fn fault_into(clock: Clock, t: &mut [u8], out: &mut [u8]) -> Clock {
+    let r = fault(clock, t, out);
+    replied(t, r, out)
 }
 
-fn play_disconnect(s: Play, t: &[u8]) -> Play {
-    let clock = s.clock;
-    happened(s, t, disconnect(clock))
-}
-
-fn fault_into(s: Play, t: &mut [u8], out: &mut [u8]) -> Play {
-    let clock = s.clock;
-    let size = s.size;
-    if t.len() < size {
-        return s;
-    }
-    let r = fault(clock, &mut t[0..size], out);
-    replied(s, t, r, out)
-}
-
-fn play_fault(s: Play, t: &mut [u8], room: usize) -> Play {
+fn play_fault(clock: Clock, t: &mut [u8], room: usize) -> Clock {
     if 64 < room {
-        return s;
+        return clock;
     }
     let mut out = [0xAAu8; 64];
-    fault_into(s, t, &mut out[0..room])
+    fault_into(clock, t, &mut out[0..room])
 }
 
-fn write_into(s: Play, t: &mut [u8], write: &[u8], out: &mut [u8]) -> Play {
-    let clock = s.clock;
-    let size = s.size;
-    if t.len() < size {
-        return s;
-    }
-    let r = time_update(clock, &mut t[0..size], write, out);
-    replied(s, t, r, out)
+fn write_into(clock: Clock, t: &mut [u8], write: &[u8], out: &mut [u8]) -> Clock {
+    let r = time_update(clock, t, write, out);
+    replied(t, r, out)
 }
 
-fn play_write(s: Play, t: &mut [u8], write: &[u8], room: usize) -> Play {
+fn play_write(clock: Clock, t: &mut [u8], write: &[u8], room: usize) -> Clock {
     if 64 < room {
-        return s;
+        return clock;
     }
     let mut out = [0xAAu8; 64];
-    write_into(s, t, write, &mut out[0..room])
+    write_into(clock, t, write, &mut out[0..room])
 }
 
-fn access_into(s: Play, t: &[u8], write: &[u8], out: &mut [u8]) -> Play {
-    let clock = s.clock;
-    let size = s.size;
-    if t.len() < size {
-        return s;
-    }
-    let r = record_access(clock, &t[0..size], write, out);
-    replied(s, t, r, out)
+fn access_into(clock: Clock, t: &[u8], write: &[u8], out: &mut [u8]) -> Clock {
+    let r = record_access(clock, t, write, out);
+    replied(t, r, out)
 }
 
-fn play_access(s: Play, t: &[u8], write: &[u8], room: usize) -> Play {
+fn play_access(clock: Clock, t: &[u8], write: &[u8], room: usize) -> Clock {
     if 64 < room {
-        return s;
+        return clock;
     }
     let mut out = [0xAAu8; 64];
-    access_into(s, t, write, &mut out[0..room])
+    access_into(clock, t, write, &mut out[0..room])
 }
 
-fn notify_into(s: Play, t: &[u8], p: u32, out: &mut [u8]) -> Play {
-    let clock = s.clock;
-    let size = s.size;
-    if t.len() < size {
-        return s;
-    }
-    let n = notify(clock, &t[0..size], p, out);
-    notified(s, t, n, out)
+fn notify_into(clock: Clock, t: &[u8], p: u32, out: &mut [u8]) -> Clock {
+    let n = notify(clock, t, p, out);
+    notified(t, n, out)
 }
 
-fn play_notify(s: Play, t: &[u8], p: u32, room: usize) -> Play {
+fn play_notify(clock: Clock, t: &[u8], p: u32, room: usize) -> Clock {
     if 320 < room {
-        return s;
+        return clock;
     }
     let mut out = [0xAAu8; 320];
-    notify_into(s, t, p, &mut out[0..room])
+    notify_into(clock, t, p, &mut out[0..room])
 }
 
-fn with_joining(s: Play, joining: Joining) -> Play {
-    let clock = s.clock;
-    Play {
-        clock,
-        size: s.size,
-        joining,
-    }
-}
-
-fn joining_of(phase: u8, counter: u8, len: u8, from: &[u8]) -> Joining {
+fn joining_of(command: &[u8]) -> Joining {
+    let from = rest(command, 4);
     let mut bytes = [0u8; 45];
     if from.len() <= 45 {
         put(&mut bytes, 0, from);
     }
     Joining {
-        phase,
-        counter,
-        len,
+        phase: byte_at(command, 1),
+        counter: byte_at(command, 2),
+        len: byte_at(command, 3),
         bytes,
     }
 }
 
-fn set_joining(s: Play, joining: Joining) -> Play {
+fn set_joining(joining: Joining) -> Joining {
     print_set();
     print_joining(joining);
     end_line();
-    with_joining(s, joining)
+    joining
 }
 
-fn play_join(s: Play, note: &[u8]) -> Play {
-    let before = s.joining;
+fn play_join(before: Joining, note: &[u8]) -> Joining {
     let joined = join(before, note);
     let answer = joined.answer;
     let joining = joined.joining;
     print_plain(tablet::joining::number_of(answer));
     print_joining(joining);
     end_line();
-    with_joining(s, joining)
+    joining
 }
 
-fn tell_read(s: Play, bytes: &[u8]) -> Play {
+fn tell_read(bytes: &[u8]) {
     print_plain(coding::reading::number_of(read(bytes)));
     end_line();
-    s
 }
 
-fn tell_carried(s: Play, t: &[u8], stamp: u32, q: u16) -> Play {
-    let size = s.size;
-    if t.len() < size {
-        return s;
-    }
-    print_plain(carry::stamp::number_of(carry(stamp, q, &t[0..size])));
+fn tell_carried(t: &[u8], stamp: u32, q: u16) {
+    print_plain(carry::stamp::number_of(carry(stamp, q, t)));
     end_line();
-    s
 }
 
 fn with_field(c: Clock, field: u8, value: u32) -> Clock {
@@ -273,11 +208,6 @@ fn with_field(c: Clock, field: u8, value: u32) -> Clock {
         _ => after.aligned = value,
     }
     after
-}
-
-fn set_field(s: Play, field: u8, value: u32) -> Play {
-    let clock = s.clock;
-    with_clock(s, with_field(clock, field, value))
 }
 
 fn filter_of(operator: u8, min: u16, max: u16) -> Filter {
@@ -329,105 +259,141 @@ fn with_report(c: Clock, report: Report) -> Clock {
     }
 }
 
-fn set_report(s: Play, report: Report) -> Play {
-    let clock = s.clock;
-    with_clock(s, with_report(clock, report))
-}
-
-fn set_bytes(s: Play, t: &mut [u8], at: usize, bytes: &[u8]) -> Play {
+fn set_bytes(t: &mut [u8], at: usize, bytes: &[u8]) {
     if t.len() < at {
-        return s;
+        return;
     }
     if t.len() - at < bytes.len() {
-        return s;
+        return;
     }
     put(t, at, bytes);
-    s
 }
 
-fn set_size(s: Play, size: usize) -> Play {
-    let clock = s.clock;
-    let joining = s.joining;
-    Play {
-        clock,
-        size,
-        joining,
-    }
-}
-
-fn tell_sound(s: Play, t: &[u8]) -> Play {
-    let size = s.size;
-    if size <= t.len() {
-        print_sound(sound(&t[0..size]));
-    }
-    s
-}
-
-fn tell_bytes(s: Play, t: &[u8], at: usize, len: usize) -> Play {
+fn tell_bytes(t: &[u8], at: usize, len: usize) {
     if t.len() < at {
-        return s;
+        return;
     }
     if t.len() - at < len {
-        return s;
+        return;
     }
     let end = at + len;
     print_bytes(&t[at..end]);
     end_line();
-    s
 }
 
-// The commands that change the buffer.
-fn play_table(s: Play, t: &mut [u8], command: &[u8]) -> Play {
-    let first = byte_at(command, 1);
+// The table's size after a command.
+fn size_after(size: usize, command: &[u8]) -> usize {
     match byte_at(command, 0) {
-        0x01 => play_start(s, t, number_at(command, 1) as usize),
-        0x05 => play_fault(s, t, first as usize),
-        0x06 => play_write(s, t, rest(command, 2), first as usize),
-        0x12 => {
-            let after = set_bytes(s, t, number_at(command, 1) as usize, rest(command, 5));
-            told(after, t)
-        }
-        _ => s,
+        0x01 => number_at(command, 1) as usize,
+        0x13 => number_at(command, 1) as usize,
+        _ => size,
     }
 }
 
-// The commands that leave the buffer alone.
-fn play_clock(s: Play, t: &[u8], command: &[u8]) -> Play {
-    let first = byte_at(command, 1);
-    let number = number_at(command, 1);
+// What a command does to the whole buffer, or prints of it.
+fn play_buffer(t: &mut [u8], command: &[u8]) {
+    let at = number_at(command, 1) as usize;
     match byte_at(command, 0) {
-        0x02 => play_seconds(s, t, number),
-        0x03 => play_switches(s, t, first, byte_at(command, 2), byte_at(command, 3)),
-        0x04 => play_disconnect(s, t),
-        0x10 => told(set_field(s, first, number_at(command, 2)), t),
-        0x11 => told(set_report(s, report_of(command)), t),
-        0x13 => told(set_size(s, number as usize), t),
-        0x14 => tell_sound(s, t),
-        0x15 => tell_bytes(s, t, number as usize, byte_at(command, 5) as usize),
-        _ => s,
+        0x01 => fill(t),
+        0x12 => set_bytes(t, at, rest(command, 5)),
+        0x15 => tell_bytes(t, at, byte_at(command, 5) as usize),
+        _ => {}
     }
 }
 
-// The commands of reports, joining, reading and carrying.
-fn play_report(s: Play, t: &[u8], command: &[u8]) -> Play {
-    let first = byte_at(command, 1);
-    let second = byte_at(command, 2);
-    let third = byte_at(command, 3);
-    let number = number_at(command, 1);
-    let room = short_at(command, 5);
+// The calls that change the table.
+fn play_table(clock: Clock, t: &mut [u8], command: &[u8]) -> Clock {
+    let room = byte_at(command, 1) as usize;
     match byte_at(command, 0) {
-        0x07 => play_access(s, t, rest(command, 2), first as usize),
-        0x08 => play_notify(s, t, number, room as usize),
-        0x20 => set_joining(s, joining_of(first, second, third, rest(command, 4))),
-        0x21 => play_join(s, rest(command, 1)),
-        0x22 => tell_read(s, rest(command, 1)),
-        0x23 => tell_carried(s, t, number, room),
-        _ => s,
+        0x01 => play_start(t),
+        0x05 => play_fault(clock, t, room),
+        0x06 => play_write(clock, t, rest(command, 2), room),
+        _ => clock,
     }
+}
+
+// The events that take no table.
+fn play_event(clock: Clock, t: &[u8], command: &[u8]) -> Clock {
+    match byte_at(command, 0) {
+        0x02 => happened(t, seconds(clock, number_at(command, 1))),
+        0x03 => play_switches(
+            clock,
+            t,
+            byte_at(command, 1),
+            byte_at(command, 2),
+            byte_at(command, 3),
+        ),
+        0x04 => happened(t, disconnect(clock)),
+        _ => clock,
+    }
+}
+
+// The calls of reports.
+fn play_report(clock: Clock, t: &[u8], command: &[u8]) -> Clock {
+    match byte_at(command, 0) {
+        0x07 => play_access(clock, t, rest(command, 2), byte_at(command, 1) as usize),
+        0x08 => play_notify(
+            clock,
+            t,
+            number_at(command, 1),
+            short_at(command, 5) as usize,
+        ),
+        _ => clock,
+    }
+}
+
+// What is set up: the clock, or buffer and size, which are set already.
+fn play_set(clock: Clock, t: &[u8], command: &[u8]) -> Clock {
+    match byte_at(command, 0) {
+        0x10 => told(
+            with_field(clock, byte_at(command, 1), number_at(command, 2)),
+            t,
+        ),
+        0x11 => told(with_report(clock, report_of(command)), t),
+        0x12 => told(clock, t),
+        0x13 => told(clock, t),
+        _ => clock,
+    }
+}
+
+fn play_joining(joining: Joining, command: &[u8]) -> Joining {
+    match byte_at(command, 0) {
+        0x20 => set_joining(joining_of(command)),
+        0x21 => play_join(joining, rest(command, 1)),
+        _ => joining,
+    }
+}
+
+// The commands that only print.
+fn tell(t: &[u8], command: &[u8]) {
+    match byte_at(command, 0) {
+        0x14 => print_sound(sound(t)),
+        0x22 => tell_read(rest(command, 1)),
+        0x23 => tell_carried(t, number_at(command, 1), short_at(command, 5)),
+        _ => {}
+    }
+}
+
+// The clock after a command on the table `t`.
+fn clock_after(clock: Clock, t: &mut [u8], command: &[u8]) -> Clock {
+    let called = play_table(clock, t, command);
+    let ticked = play_event(called, t, command);
+    let reported = play_report(ticked, t, command);
+    tell(t, command);
+    play_set(reported, t, command)
 }
 
 pub fn play_command(s: Play, t: &mut [u8], command: &[u8]) -> Play {
-    let after = play_table(s, t, command);
-    let later = play_clock(after, t, command);
-    play_report(later, t, command)
+    let clock = s.clock;
+    let joining = s.joining;
+    let size = size_after(s.size, command);
+    if t.len() < size {
+        return s;
+    }
+    play_buffer(t, command);
+    Play {
+        clock: clock_after(clock, &mut t[0..size], command),
+        size,
+        joining: play_joining(joining, command),
+    }
 }

@@ -77,24 +77,16 @@ pub fn rest(command: &[u8], from: usize) -> &[u8] {
     &command[from..]
 }
 
-fn join2(high: u8, low: u8) -> u16 {
-    256 * (high as u16) + low as u16
-}
-
-fn join4(high: u16, low: u16) -> u32 {
-    65536 * (high as u32) + low as u32
-}
-
 // Two bytes of a command as a number, highest first.
 pub fn short_at(command: &[u8], at: usize) -> u16
     requires { ⌜ at < 64 ⌝ }
 {
-    join2(byte_at(command, at), byte_at(command, at + 1))
+    256 * (byte_at(command, at) as u16) + byte_at(command, at + 1) as u16
 }
 
 // Four bytes of a command as a number, highest first.
 pub fn number_at(command: &[u8], at: usize) -> u32
     requires { ⌜ at < 62 ⌝ }
 {
-    join4(short_at(command, at), short_at(command, at + 2))
+    65536 * (short_at(command, at) as u32) + short_at(command, at + 2) as u32
 }
