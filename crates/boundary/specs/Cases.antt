@@ -5,7 +5,7 @@ use mathlib.Core.List.{List, [], _∷_}
 use Prim.Native.Nat.{ℕ}
 use lib.IntN.{pos}
 use lib.ListN.{replicate}
-use Rattle.octets.specs.Parts.{part, zerosB, over}
+use Rattle.octets.specs.Parts.{part, zerosB, sameB, over}
 use Rattle.rules.specs.Rules.{baseB, zoneB, dstB, sourceB, statusB, bitsB}
 use Rattle.layout.specs.Layout.{updateBytes, bytesOf}
 use Rattle.table.specs.Table.{sizeB, startB, emptyB, fieldsB, headB, slots, ring, rowB, soundB, steps}
@@ -26,7 +26,7 @@ use Rattle.refusals.specs.Rows.{firstFailed, wholeB, tableRows, writeRows}
 use Rattle.refusals.specs.Rows as rows
 use Rattle.service.specs.Start.{newReaderOf}
 use Rattle.service.specs.Update.{updateRows, tableAfter, settledOf, effectOf, updateOf}
-use Rattle.image.specs.State.{switchesOf as switchesIn, fieldsOf, fieldBytes, imageOf, runningIn, clockIn, sameB, imageB, readStateOf}
+use Rattle.image.specs.State.{switchesOf as switchesIn, fieldsOf, fieldBytes, imageOf, runningIn, clockIn, imageB, readStateOf}
 use Rattle.firmware.specs.Results.{resultOf, stateAfter, Ran}
 use Rattle.firmware.specs.Results as results
 use Rattle.firmware.specs.Start.{StartedBytes, startAt}

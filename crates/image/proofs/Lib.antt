@@ -1,4 +1,3 @@
-pub mod SameLaws
 pub mod StateLaws
 pub mod JoiningLaws
 pub mod RoundTrip

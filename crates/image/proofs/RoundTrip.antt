@@ -17,10 +17,11 @@ use Rattle.clock.specs.declared.state.Left.the-variants.{Nothing, From}
 use Rattle.clock.specs.declared.state.Running.{Running}
 use Rattle.clock.specs.declared.state.Running.the-variants.{Idle, Reporting}
 use Rattle.clock.proofs.RuleLaws.{clock-reads, running-reads}
-use Rattle.image.specs.State.{stateBytes, switchesOf, boundsOf, unsentOf, fieldsOf, fieldBytes, imageOf, filterIn, leftIn, runningIn, clockIn, sameB, imageB}
+use Rattle.octets.specs.Parts.{sameB}
+use Rattle.image.specs.State.{stateBytes, switchesOf, boundsOf, unsentOf, fieldsOf, fieldBytes, imageOf, filterIn, leftIn, runningIn, clockIn, imageB}
 use Rattle.image.specs.Promises.{FilterFits, LeftFits, RunningFits, Fits, StateImages}
 use Rattle.image.specs.declared.state.StateRead.the-variants.{Is}
-use Rattle.image.proofs.SameLaws.{same-makes}
+use Rattle.octets.proofs.SameLaws.{same-makes}
 use Rattle.image.proofs.StateLaws.{is-image, image-back}
 
 -- a number's two bytes joined again

@@ -15,12 +15,13 @@ use Rattle.clock.specs.declared.state.Clock.{Clock}
 use Rattle.clock.specs.declared.state.Left.the-variants.{Nothing}
 use Rattle.clock.specs.declared.state.Report.{Report}
 use Rattle.clock.specs.declared.state.Running.the-variants.{Idle, Reporting}
-use Rattle.image.specs.State.{stateBytes, switchesOf, bounds, boundsOf, unsentOf, fields, fieldsOf, fieldBytes, imageOf, clockIn, sameB, imageB, readStateOf}
+use Rattle.octets.specs.Parts.{sameB}
+use Rattle.image.specs.State.{stateBytes, switchesOf, bounds, boundsOf, unsentOf, fields, fieldsOf, fieldBytes, imageOf, clockIn, imageB, readStateOf}
 use Rattle.image.specs.declared.state.Bounds.{Bounds}
 use Rattle.image.specs.declared.state.Fields.{Fields}
 use Rattle.image.specs.declared.state.Unsent.{Unsent}
 use Rattle.image.specs.declared.state.StateRead.the-variants.{Is, Refused}
-use Rattle.image.proofs.SameLaws.{same-reads}
+use Rattle.octets.proofs.SameLaws.{same-reads}
 
 pub image-laid : (c : Clock) {f : Fields} {w : ℕ} → f ≡ fieldsOf (c .running) → w ≡ switchesOf (c .dtcp) (c .racp) (c .log)
     → bytes4 (c .base)

@@ -6,6 +6,7 @@ use lib.Dec.{eqb}
 use lib.ListN.{length}
 use Rattle.octets.specs.Choice.{both, pick}
 use Rattle.octets.specs.Numbers.{at, le16, le32, bytes2, bytes4}
+use Rattle.octets.specs.Parts.{sameB}
 use Rattle.filter.specs.declared.request.Filter.{Filter}
 use Rattle.filter.specs.declared.request.Filter.the-variants.{All, AtMost, AtLeast, Range, First, Last}
 use Rattle.clock.specs.declared.state.Clock.{Clock}
@@ -119,13 +120,6 @@ clockIn s =
       log = eqb (at s 16 / 4 % 2) 1;
       running = runningIn s;
     }
-
--- are two byte strings the same?
-unfoldable pub sameB : List ℕ → List ℕ → Bool
-sameB [] [] = true
-sameB [] (b ∷ y) = false
-sameB (a ∷ x) [] = false
-sameB (a ∷ x) (b ∷ y) = both (eqb a b) (sameB x y)
 
 -- Bytes are an image exactly when they are what the clock read from them is written as.
 unfoldable pub imageB : List ℕ → Bool

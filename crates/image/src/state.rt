@@ -9,7 +9,8 @@ use octets::numbers::get32;
 ghost use mathlib.Core.Path.{_≡_};
 ghost use Prim.Native.Nat.{_≤_};
 ghost use lib.ListN.{length};
-ghost use Rattle.image.specs.State.{weightIf, switchesOf, bounds, boundsOf, unsentOf, fieldsOf, imageOf, filterIn, leftIn, runningIn, clockIn, sameB, readStateOf};
+ghost use Rattle.octets.specs.Parts.{sameB};
+ghost use Rattle.image.specs.State.{weightIf, switchesOf, bounds, boundsOf, unsentOf, fieldsOf, imageOf, filterIn, leftIn, runningIn, clockIn, readStateOf};
 
 // The image's length.
 pub const STATE_BYTES: usize = 32;

@@ -1,34 +1,17 @@
 -- The sheet and the tables of the story, computed as one test, so that the checker plays the day only once.
 -- Assumes nothing.
 use mathlib.Core.Path.{_≡_, refl}
-use mathlib.Core.Bool.{Bool, true, false}
-use mathlib.Core.List.{List, [], _∷_}
-use Prim.Native.Nat.{ℕ}
-use borrow.Author.Tests.{eqb-true}
-use lib.Dec.{eqb}
+use mathlib.Core.Bool.{Bool, true}
 use Rattle.octets.specs.Choice.{both}
-use Rattle.octets.proofs.Tests.{clash, both-reads}
+use Rattle.octets.specs.Parts.{sameB}
+use Rattle.octets.proofs.Tests.{both-reads}
+use Rattle.octets.proofs.SameLaws.{same-reads}
 use Rattle.day.specs.Play.{openedOf, playedOf}
 use Rattle.day.specs.declared.play.Ramp.{Ramp}
 use Rattle.evening.specs.Fetch.{fetchedOf}
 use Rattle.loading_day.specs.Story.{theDay, theTags}
 use Rattle.loading_day.specs.Page.{eveningOf, sheetOf}
 use Rattle.loading_day.specs.Printed.{theSheet, joinedLines, printed, Printed}
-
--- are two byte strings the same?
-unfoldable sameB : List ℕ → List ℕ → Bool
-sameB [] [] = true
-sameB [] (b ∷ y) = false
-sameB (a ∷ x) [] = false
-sameB (a ∷ x) (b ∷ y) = both (eqb a b) (sameB x y)
-
-same-reads : (x y : List ℕ) → sameB x y ≡ true → x ≡ y
-unfolding sameB
-same-reads [] [] h = refl
-same-reads [] (b ∷ y) h = absurd (clash false h refl)
-same-reads (a ∷ x) [] h = absurd (clash false h refl)
-same-reads (a ∷ x) (b ∷ y) h =
-    let r = both-reads (eqb a b) (sameB x y) h in rw (eqb-true a b (r .0), same-reads x y (r .1))
 
 -- on a ramp in the evening: the text printed, and both tables as the tablet fetched them
 unfoldable printedB : Ramp → Bool

@@ -2,3 +2,4 @@ pub mod Tests
 pub mod Filling
 pub mod PartLaws
 pub mod NumberLaws
+pub mod SameLaws

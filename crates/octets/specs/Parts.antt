@@ -1,5 +1,5 @@
 -- Parts of byte strings.
-use mathlib.Core.Bool.{Bool, true}
+use mathlib.Core.Bool.{Bool, true, false}
 use mathlib.Core.List.{List, [], _∷_, _++_}
 use Prim.Native.Nat.{ℕ, _+_, _<_}
 use lib.ListN.{length, take, drop}
@@ -15,6 +15,13 @@ part t p n = take n (drop p t)
 unfoldable pub zerosB : List ℕ → Bool
 zerosB [] = true
 zerosB (b ∷ l) = both (eqb b 0) (zerosB l)
+
+-- two byte strings are the same
+unfoldable pub sameB : List ℕ → List ℕ → Bool
+sameB [] [] = true
+sameB [] (b ∷ y) = false
+sameB (a ∷ x) [] = false
+sameB (a ∷ x) (b ∷ y) = both (eqb a b) (sameB x y)
 
 -- t with xs in the place of its bytes from p on
 unfoldable pub over : List ℕ → ℕ → List ℕ → List ℕ

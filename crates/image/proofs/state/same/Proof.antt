@@ -3,8 +3,8 @@
 use Prim.Native.Nat.{_≤_, _-_}
 use mathlib.Core.Path.{_≡_, refl, sym, _∙_}
 use lib.ListN.{length, drop}
-use Rattle.image.specs.State.{sameB}
-use Rattle.image.proofs.SameLaws.{same-step, same-differs, same-end}
+use Rattle.octets.specs.Parts.{sameB}
+use Rattle.octets.proofs.SameLaws.{same-step, same-differs, same-end}
 use borrow.Author.Needs.{needs}
 use Rattle.image.proofs.state.same.Statement.{statement}
 use Rattle.image.proofs.state.same.Tie as tie

@@ -9,9 +9,9 @@ use borrow.Author.Tests.{eq-eqb, ne-eqb, eqb-true}
 use lib.Dec.{eqb}
 use lib.ListN.{length, drop, drop-of-length-le}
 use lib.Seq.{drop-cons}
 use Rattle.octets.specs.Numbers.{at}
 use Rattle.octets.proofs.Tests.{both-yes, both-no, both-reads, clash}
-use Rattle.image.specs.State.{sameB}
+use Rattle.octets.specs.Parts.{sameB}
 
 module _ (a b : List ℕ) (i : ℕ) where
   pub same-step : i < length a → i < length b → at a i ≡ at b i → sameB (drop i a) (drop i b) ≡ sameB (drop (i + 1) a) (drop (i + 1) b)
@@ -32,10 +32,7 @@ same-reads [] [] h = refl
 same-reads [] (y ∷ b) h = absurd (clash false h refl)
 same-reads (x ∷ a) [] h = absurd (clash false h refl)
 same-reads (x ∷ a) (y ∷ b) h =
-    let r = both-reads (eqb x y) (sameB a b) h in
-    let e = eqb-true x y (r .0) in
-    let f = same-reads a b (r .1) in
-    cc
+    let r = both-reads (eqb x y) (sameB a b) h in rw (eqb-true x y (r .0), same-reads a b (r .1))
 
 pub same-makes : (a : List ℕ) → sameB a a ≡ true
 unfolding sameB
