@@ -31,7 +31,7 @@ unfolding rangeB
 returns c =
     let base = c .before .before .before in
     let place = base .before in
-    rw (
+    simp (
       c .both3 .ensures,
       c .before .both2 .ensures,
       c .before .before .source-ok .ensures,

@@ -27,7 +27,7 @@ returns : tie.Need-returns
 unfolding proposalAt
 returns c =
     let base = c .before .before .before .before in
-    rw (base .before .get16 .ensures, base .get32 .ensures)
+    simp (base .before .get16 .ensures, base .get32 .ensures)
 
 pub proposal-at-spec : {M : Type 1} → statement M
 proposal-at-spec =
