@@ -46,7 +46,25 @@ both-requires-6 c κs = search needs
 
 returns : tie.Need-returns
 unfolding clockB
-returns c = cc
+returns c =
+    let kept = c .before .before .before .before in
+    let quality = kept .before .before .before in
+    let place = quality .before .before .before in
+    simp (
+      c .both6 .ensures,
+      c .before .both5 .ensures,
+      c .before .before .both4 .ensures,
+      c .before .before .before .base-ok2 .ensures,
+      kept .both3 .ensures,
+      kept .before .running-ok .ensures,
+      kept .before .before .base-ok .ensures,
+      quality .both2 .ensures,
+      quality .before .status-ok .ensures,
+      quality .before .before .source-ok .ensures,
+      place .both .ensures,
+      place .before .dst-ok .ensures,
+      place .before .before .zone-ok .ensures,
+    )
 
 pub clock-ok-spec : {M : Type 1} → statement M
 clock-ok-spec =

@@ -19,7 +19,9 @@ both-requires-2 c κs = search needs
 
 returns : tie.Need-returns
 unfolding reportB counterB
-returns c = cc
+returns c =
+    let filter = c .before .before .before in
+    simp (c .both2 .ensures, c .before .both .ensures, filter .filter-ok .ensures, filter .before .opcode-ok .ensures)
 
 pub report-ok-spec : {M : Type 1} → statement M
 report-ok-spec =

@@ -37,7 +37,15 @@ running-in-requires c κs = search needs
 
 returns : tie.Need-returns
 unfolding clockIn
-returns c = cc
+returns c =
+    let base = c .before .before .before .before .before .before .before .before in
+    simp (
+      base .get32 .ensures,
+      c .before .before .before .get16 .ensures,
+      c .before .before .get162 .ensures,
+      c .before .get322 .ensures,
+      c .running-in .ensures,
+    )
 
 pub clock-in-spec : {M : Type 1} → statement M
 clock-in-spec =

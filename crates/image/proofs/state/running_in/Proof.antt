@@ -42,7 +42,17 @@ left-in-requires c κs = search needs
 
 returns-2 : tie.Need-returns-2
 unfolding runningIn
-returns-2 c = let n = ne-eqb _ _ (c .before .before .before .before .before .before .before .before .before .if1 .left) in rw n (cc)
+returns-2 c =
+    let filter = c .before .before .before .before .before in
+    let some = filter .before .before .before .before in
+    simp (
+      ne-eqb _ _ (some .if1 .left),
+      filter .filter-in .ensures,
+      filter .before .before .get16 .ensures,
+      filter .before .get162 .ensures,
+      c .left-in .ensures,
+      c .before .before .get163 .ensures,
+    )
 
 pub running-in-spec : {M : Type 1} → statement M
 running-in-spec =

@@ -22,7 +22,7 @@ add-result-2 c = search needs
 
 returns : tie.Need-returns
 unfolding switchesOf
-returns c = cc
+returns c = simp (c .before .before .weight-if .ensures .0, c .before .weight-if2 .ensures .0, c .weight-if3 .ensures .0)
 
 pub switches-of-spec : {M : Type 1} → statement M
 switches-of-spec =

@@ -44,8 +44,8 @@ returns c =
     let far = quality .before in
     let a = far .before .before .before .args in
     grounds-told (a .c) (a .p) (a .forced) _ _ _ _ _ _ _ _
-    (far .before .both .ensures ∙ cc)
-    (lower .before .both2 .ensures ∙ cc)
+    (far .before .both .ensures ∙ simp (far .before .before .unrealistic .ensures))
+    (lower .before .both2 .ensures ∙ simp (quality .lower-quality .ensures))
     (range .before .out-of-range .ensures)
     (c .before .wrong-epoch .ensures)
     (far .also .ensures .0)

@@ -13,7 +13,7 @@ clock-grade-requires c κs = search needs
 
 returns : tie.Need-returns
 unfolding lowerB
-returns c = cc
+returns c = simp (c .before .grade-of .ensures, c .clock-grade .ensures)
 
 pub lower-quality-spec : {M : Type 1} → statement M
 lower-quality-spec = tie.close (tie.spec grade-of-requires clock-grade-requires returns)

@@ -28,7 +28,18 @@ both-requires-3 c κs = search needs
 
 returns : tie.Need-returns
 unfolding rangeB
-returns c = cc
+returns c =
+    let base = c .before .before .before in
+    let place = base .before in
+    simp (
+      c .both3 .ensures,
+      c .before .both2 .ensures,
+      c .before .before .source-ok .ensures,
+      base .base-ok .ensures,
+      place .both .ensures,
+      place .before .dst-ok .ensures,
+      place .before .before .zone-ok .ensures,
+    )
 
 pub out-of-range-spec : {M : Type 1} → statement M
 out-of-range-spec =

@@ -13,7 +13,7 @@ both-requires c κs = search needs
 
 returns : tie.Need-returns
 unfolding unrealisticB
-returns c = cc
+returns c = simp (c .both .ensures, c .before .seconds-apart .ensures)
 
 pub unrealistic-spec : {M : Type 1} → statement M
 unrealistic-spec = tie.close (tie.spec seconds-apart-requires both-requires returns)

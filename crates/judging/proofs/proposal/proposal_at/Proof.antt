@@ -25,7 +25,9 @@ shared-slice-read-t11 c = search needs
 
 returns : tie.Need-returns
 unfolding proposalAt
-returns c = cc
+returns c =
+    let base = c .before .before .before .before in
+    simp (base .before .get16 .ensures, base .get32 .ensures)
 
 pub proposal-at-spec : {M : Type 1} → statement M
 proposal-at-spec =

@@ -17,7 +17,15 @@ use Rattle.tablet.proofs.joining.takes.Tie as tie
 tested : (c : tie.After-both2)
     → let a = c .before .before .before .before .before .before .before .args in
     c .both2 .result ≡ both (rangesB (a .j)) (both (placedB (a .j) (a .note .now)) (followsB (a .j) (a .note .now)))
-tested c = cc
+tested c =
+    let follows = c .before .before in
+    simp (
+      c .both2 .ensures,
+      c .before .both .ensures,
+      follows .follows .ensures,
+      follows .before .placed .ensures,
+      follows .before .before .ranges-ok .ensures,
+    )
 
 small : (c : tie.After-standing) → c .standing .result ≤ 45
 small c =

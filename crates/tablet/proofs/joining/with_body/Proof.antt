@@ -1,6 +1,6 @@
 -- `with_body` lays the body over what stands there.
 -- Assumes nothing.
-use mathlib.Core.Path.{ap}
+use mathlib.Core.Path.{ap, _∙_}
 use lib.ListN.{length}
 use Rattle.tablet.proofs.JoiningLaws.{body-lent}
 use borrow.Author.Needs.{needs}
@@ -33,7 +33,10 @@ put-requires c κs =
     omega (arith, c .before .before .standing .ensures, ap length (body-lent (a .args .note .now)))
 
 returns : tie.Need-returns
-returns c = cc (body-lent (c .before .before .before .before .before .before .before .args .note .now))
+returns c =
+    let standing = c .before .before .before .before in
+    c .before .put .ensures
+    ∙ simp (standing .before .ground .ensures, standing .standing .ensures, body-lent (standing .before .before .before .args .note .now))
 
 pub with-body-spec : {M : Type 1} → statement M
 with-body-spec =
