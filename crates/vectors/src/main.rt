@@ -31,7 +31,8 @@
 // 01 to 08 are calls, and print a line each: the answer's number and its ATT error, for 05 to 08 the response,
 // segment or closing response and whether the output past it still is AA, the clock (zone and status in hex; the switches DTCP, RACP, log),
 // the table's header, a sum of all its bytes, and its newest record. 10 to 13 print clock and table likewise,
-// after the word `set`. 20 and 21 print the joining state, 22 and 23 their answer. A command that does not fit, as a table longer than the buffer, does nothing.
+// after the word `set`. 20 and 21 print the joining state, 22 and 23 their answer. A command that does not fit, as a table longer than the buffer,
+// does nothing; 12 then still prints.
 mod play;
 mod print;
 mod script;
