@@ -7,8 +7,8 @@ use native.Mathlib.Omega.{arith}
 use Rattle.clock.specs.Answers.{numberOf}
 use Rattle.clock.specs.State.{newReader}
 use Rattle.rules.specs.Rules.{baseB, zoneB, dstB, sourceB, statusB, bitsB}
-use Rattle.clock.specs.Rules.{runningB, clockB}
-use Rattle.clock.specs.Events.{withBase}
+use Rattle.clock.specs.Rules.{runningB, timeB, clockB}
+use Rattle.clock.specs.Events.{withBase, onOff}
 use Rattle.clock.specs.Promises.{Untouched, RefusedUnchanged, Obeys, Ticks}
 use Rattle.clock.specs.declared.events.Event.{Event}
 use Rattle.clock.specs.declared.state.Clock.{Clock}
@@ -36,14 +36,14 @@ refused-unchanged =
     }
 
 new-reader-obeys : clockB newReader ≡ true
-unfolding clockB runningB newReader baseB zoneB dstB sourceB statusB bitsB
+unfolding clockB timeB runningB newReader baseB zoneB dstB sourceB statusB bitsB
 new-reader-obeys = refl
 
 seconds-obeys : {c : Clock} {n : ℕ} {e : Event} → Seconds c n e → clockB c ≡ true → clockB (e .clock) ≡ true
 seconds-obeys (refuses-2 h) ok = ok
 seconds-obeys (refuses-7 h l) ok = ok
 seconds-obeys {c} {n} (rises h l) ok =
-    let r = clock-reads c ok in with-base-obeys c (c .base + n) (base-makes (c .base + n) (omega arith) l) ok
+    let r = clock-reads c ok .time in with-base-obeys c (c .time .base + n) (base-makes (c .time .base + n) (omega arith) l) ok
 
 changed-obeys : {c after : Clock} {e : Event} → Changed c after e → (clockB c ≡ true → clockB after ≡ true) → clockB c ≡ true
     → clockB (e .clock) ≡ true
@@ -55,11 +55,11 @@ obeys =
     record {
       new-reader = new-reader-obeys;
       seconds = λ c n. seconds-obeys (seconds-is c n);
-      switches = λ c a b d. changed-obeys (switches-is c a b d) (with-switches-obeys c a b d);
+      switches = λ c a b d. changed-obeys (switches-is c a b d) (with-switches-obeys c (onOff a b d));
       disconnect = λ c. changed-obeys (disconnect-is c) (disconnected-obeys c);
     }
 
-rises-by : {c : Clock} {n : ℕ} {e : Event} → Seconds c n e → numberOf (e .answer) ≡ 0 → e .clock ≡ withBase c (c .base + n)
+rises-by : {c : Clock} {n : ℕ} {e : Event} → Seconds c n e → numberOf (e .answer) ≡ 0 → e .clock ≡ withBase c (c .time .base + n)
 unfolding numberOf
 rises-by (refuses-2 h) done = absurd (omega arith)
 rises-by (refuses-7 h l) done = absurd (omega arith)

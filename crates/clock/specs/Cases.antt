@@ -8,8 +8,8 @@ use Rattle.filter.specs.declared.request.Filter.{Filter}
 use Rattle.filter.specs.declared.request.Filter.the-variants.{All, Range}
 use Rattle.clock.specs.Answers.{numberOf}
 use Rattle.rules.specs.Rules.{baseB, zoneB, dstB, sourceB, statusB, bitsB}
-use Rattle.clock.specs.Rules.{opcodeB, filterB, counterB, reportB, runningB, clockB}
-use Rattle.clock.specs.Events.{unlessBroken, withBase, withSwitches, disconnected, secondsOf, switchesOf, disconnectOf}
+use Rattle.clock.specs.Rules.{opcodeB, filterB, counterB, reportB, runningB, timeB, clockB}
+use Rattle.clock.specs.Events.{unlessBroken, withBase, onOff, disconnected, secondsOf, switchesOf, disconnectOf}
 use Rattle.clock.specs.declared.events.Event.{Event}
 use Rattle.clock.specs.declared.state.Clock.{Clock}
 use Rattle.clock.specs.declared.state.Left.the-variants.{From}
@@ -39,7 +39,7 @@ pub record Outcome : Type 0 where
   pub clock : Clock
 
 unfoldable pub eventOf : Clock → Call → Event
-unfolding secondsOf switchesOf disconnectOf unlessBroken withBase withSwitches disconnected clockB runningB reportB opcodeB filterB counterB baseB zoneB dstB sourceB statusB bitsB
+unfolding secondsOf switchesOf disconnectOf unlessBroken withBase disconnected clockB timeB runningB reportB opcodeB filterB counterB baseB zoneB dstB sourceB statusB bitsB
 eventOf c (seconds n) = secondsOf c n
 eventOf c (switches dtcp racp log) = switchesOf c dtcp racp log
 eventOf c disconnect = disconnectOf c
@@ -56,17 +56,8 @@ expected k = record { number = k .number; clock = k .after }
 abbrev switched : Bool → Bool → Bool → ℕ → ℕ → ℕ → ℕ → ℕ → ℕ → ℕ → Running → Clock
 switched x y w b z d o a t u r =
     record {
-      base = b;
-      zone = z;
-      dst = d;
-      source = o;
-      accuracy = a;
-      status = t;
-      faults = 0;
-      aligned = u;
-      dtcp = x;
-      racp = y;
-      log = w;
+      time = record { base = b; zone = z; dst = d; source = o; accuracy = a; status = t; faults = 0; aligned = u };
+      switches = onOff x y w;
       running = r;
     }
 

@@ -40,4 +40,4 @@ pub record Obeys : Type 0 where
 
 -- "The seconds that ran are those of events answered 0": Base_Time is then n more, and every other field as it was.
 abbrev pub Ticks : Type 0
-Ticks = (c : Clock) (n : ℕ) → numberOf (secondsOf c n .answer) ≡ 0 → secondsOf c n .clock ≡ withBase c (c .base + n)
+Ticks = (c : Clock) (n : ℕ) → numberOf (secondsOf c n .answer) ≡ 0 → secondsOf c n .clock ≡ withBase c (c .time .base + n)

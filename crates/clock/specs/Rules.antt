@@ -12,6 +12,7 @@ use Rattle.clock.specs.declared.state.Clock.{Clock}
 use Rattle.clock.specs.declared.state.Report.{Report}
 use Rattle.clock.specs.declared.state.Running.{Running}
 use Rattle.clock.specs.declared.state.Running.the-variants.{Idle, Reporting}
+use Rattle.clock.specs.declared.state.Time.{Time}
 
 -- "the running report, if any: opcode 1 or 7"
 unfoldable pub opcodeB : ℕ → Bool
@@ -40,25 +41,30 @@ unfoldable pub runningB : Running → Bool
 runningB Idle = true
 runningB (Reporting r) = reportB r
 
--- Base_Time; zone and DST; source and status; the last accepted UTC-aligned value and the running report. "Accuracy: any byte", and
--- any fault count and any switches.
+-- Base_Time; zone and DST; source and status; the last accepted UTC-aligned value. "Accuracy: any byte", and any fault count.
+unfoldable pub timeB : Time → Bool
+timeB t =
+    both (baseB (t .base))
+    (both (both (zoneB (t .zone)) (dstB (t .dst)))
+    (both (both (sourceB (t .source)) (statusB (t .status))) (baseB (t .aligned))))
+
+-- any switches
 unfoldable pub clockB : Clock → Bool
-clockB c =
-    both (baseB (c .base))
-    (both (both (zoneB (c .zone)) (dstB (c .dst)))
-    (both (both (sourceB (c .source)) (statusB (c .status)))
-    (both (baseB (c .aligned)) (runningB (c .running)))))
+clockB c = both (timeB (c .time)) (runningB (c .running))
 
 -- The same rules as facts, part by part.
+pub record TimeRules (t : Time) : Type 0 where
+  pub base-low : firstBaseTime ≤ t .base
+  pub base-high : t .base ≤ lastBaseTime
+  pub zone : zoneB (t .zone) ≡ true
+  pub dst : dstB (t .dst) ≡ true
+  pub source : sourceB (t .source) ≡ true
+  pub status : statusB (t .status) ≡ true
+  pub aligned-low : firstBaseTime ≤ t .aligned
+  pub aligned-high : t .aligned ≤ lastBaseTime
+
 pub record Rules (c : Clock) : Type 0 where
-  pub base-low : firstBaseTime ≤ c .base
-  pub base-high : c .base ≤ lastBaseTime
-  pub zone : zoneB (c .zone) ≡ true
-  pub dst : dstB (c .dst) ≡ true
-  pub source : sourceB (c .source) ≡ true
-  pub status : statusB (c .status) ≡ true
-  pub aligned-low : firstBaseTime ≤ c .aligned
-  pub aligned-high : c .aligned ≤ lastBaseTime
+  pub time : TimeRules (c .time)
   pub running : runningB (c .running) ≡ true
 
 pub record ReportRules (r : Report) : Type 0 where

@@ -1,9 +1,12 @@
--- The clock state's values with a name, and the clock of a new reader (document 01, "Clock state").
+-- The clock state's values with a name, the clock of a new reader, and a clock with one part changed (document 01, "Clock state").
 use mathlib.Core.Bool.{false}
 use Prim.Native.Nat.{ℕ}
 use Rattle.rules.specs.Rules.{firstBaseTime}
 use Rattle.clock.specs.declared.state.Clock.{Clock}
+use Rattle.clock.specs.declared.state.Running.{Running}
 use Rattle.clock.specs.declared.state.Running.the-variants.{Idle}
+use Rattle.clock.specs.declared.state.Switches.{Switches}
+use Rattle.clock.specs.declared.state.Time.{Time}
 
 -- "-128 for unknown", as its byte
 abbrev pub unknownZone : ℕ
@@ -21,10 +24,10 @@ unknownAccuracy = 255
 abbrev pub faultStatus : ℕ
 faultStatus = 0x0019
 
--- "New reader: Base_Time 631,152,000, zone -128, DST 255, source 0, accuracy 255, status 0x0019, fault count 0, .., all switches off,
--- no report"; the last accepted UTC-aligned value is "631,152,000 before the first".
-unfoldable pub newReader : Clock
-newReader =
+-- "New reader: Base_Time 631,152,000, zone -128, DST 255, source 0, accuracy 255, status 0x0019, fault count 0"; the last accepted
+-- UTC-aligned value is "631,152,000 before the first".
+abbrev pub newTime : Time
+newTime =
     record {
       base = firstBaseTime;
       zone = unknownZone;
@@ -34,8 +37,21 @@ newReader =
       status = faultStatus;
       faults = 0;
       aligned = firstBaseTime;
-      dtcp = false;
-      racp = false;
-      log = false;
-      running = Idle;
     }
+
+abbrev pub allOff : Switches
+allOff = record { dtcp = false; racp = false; log = false }
+
+-- "all switches off, no report"
+unfoldable pub newReader : Clock
+newReader = record { time = newTime; switches = allOff; running = Idle }
+
+-- another time, other switches, another running report or none: the other parts stay
+abbrev pub withTime : Clock → Time → Clock
+withTime c t = record { time = t; switches = c .switches; running = c .running }
+
+abbrev pub withSwitches : Clock → Switches → Clock
+withSwitches c s = record { time = c .time; switches = s; running = c .running }
+
+abbrev pub withRunning : Clock → Running → Clock
+withRunning c r = record { time = c .time; switches = c .switches; running = r }

@@ -4,6 +4,8 @@ use crate::answers::Answer;
 use crate::obeys::clock_ok;
 use crate::state::Clock;
 use crate::state::Running;
+use crate::state::Switches;
+use crate::state::all_off;
 use rules::fields::LAST_BASE_TIME;
 ghost use mathlib.Core.Path.{_≡_};
 ghost use Rattle.clock.specs.Events.{secondsOf, switchesOf, disconnectOf};
@@ -24,15 +26,16 @@ pub fn seconds(c: Clock, n: u32) -> Event
             clock: c,
         };
     }
-    let base = c.base;
+    let base = c.time.base;
     if LAST_BASE_TIME - base < n {
         return Event {
             answer: Answer::PastTheEnd,
             clock: c,
         };
     }
+    let later = base + n;
     let mut after = c;
-    after.base = base + n;
+    after.time.base = later;
     Event {
         answer: Answer::Done,
         clock: after,
@@ -50,10 +53,9 @@ pub fn switches(c: Clock, dtcp: bool, racp: bool, log: bool) -> Event
             clock: c,
         };
     }
+    let switches = Switches { dtcp, racp, log };
     let mut after = c;
-    after.dtcp = dtcp;
-    after.racp = racp;
-    after.log = log;
+    after.switches = switches;
     Event {
         answer: Answer::Done,
         clock: after,
@@ -72,20 +74,13 @@ pub fn disconnect(c: Clock) -> Event
             clock: c,
         };
     }
+    let time = c.time;
+    let switches = all_off();
     Event {
         answer: Answer::Done,
         clock: Clock {
-            base: c.base,
-            zone: c.zone,
-            dst: c.dst,
-            source: c.source,
-            accuracy: c.accuracy,
-            status: c.status,
-            faults: c.faults,
-            aligned: c.aligned,
-            dtcp: false,
-            racp: false,
-            log: false,
+            time,
+            switches,
             running: Running::Idle,
         },
     }

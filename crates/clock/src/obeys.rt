@@ -3,6 +3,7 @@
 use crate::state::Clock;
 use crate::state::Report;
 use crate::state::Running;
+use crate::state::Time;
 use filter::request::Filter;
 use octets::choice::both;
 use rules::fields::base_ok;
@@ -11,7 +12,7 @@ use rules::fields::source_ok;
 use rules::fields::status_ok;
 use rules::fields::zone_ok;
 ghost use mathlib.Core.Path.{_≡_};
-ghost use Rattle.clock.specs.Rules.{opcodeB, filterB, reportB, runningB, clockB};
+ghost use Rattle.clock.specs.Rules.{opcodeB, filterB, reportB, runningB, timeB, clockB};
 
 // The last value of a notification's counter.
 pub const LAST_COUNTER: u8 = 63;
@@ -59,13 +60,20 @@ fn running_ok(running: Running) -> bool
     }
 }
 
-// Does the clock obey every rule that needs no table? Refuses nothing.
+fn time_ok(time: Time) -> bool
+    ensures { λ r. ⌜ r ≡ timeB time ⌝ }
+{
+    let place = both(zone_ok(time.zone), dst_ok(time.dst));
+    let quality = both(source_ok(time.source), status_ok(time.status));
+    let kept = both(quality, base_ok(time.aligned));
+    both(base_ok(time.base), both(place, kept))
+}
+
+// Does the clock obey every rule that needs no table? Any switches do. Refuses nothing.
 pub fn clock_ok(c: Clock) -> bool
     ensures { λ r. ⌜ r ≡ clockB c ⌝ }
 {
+    let time = c.time;
     let running = c.running;
-    let place = both(zone_ok(c.zone), dst_ok(c.dst));
-    let quality = both(source_ok(c.source), status_ok(c.status));
-    let kept = both(base_ok(c.aligned), running_ok(running));
-    both(base_ok(c.base), both(place, both(quality, kept)))
+    both(time_ok(time), running_ok(running))
 }

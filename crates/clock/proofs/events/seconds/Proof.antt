@@ -22,17 +22,20 @@ returns : tie.Need-returns
 returns c = sym (seconds-2 _ _ (sym (c .before .clock-ok .ensures) ∙ not-true _ (c .if1 .taken)))
 
 sub-if2 : tie.Need-sub-if2
-sub-if2 c = let r = clock-reads _ (obeys c) in omega arith
+sub-if2 c = let r = clock-reads _ (obeys c) .time in omega arith
 
 returns-2 : tie.Need-returns-2
 returns-2 c = sym (seconds-7 _ _ (obeys (c .before)) (omega arith))
 
-add-after : tie.Need-add-after
-add-after c = search needs
+add-later : tie.Need-add-later
+add-later c = search needs
 
 returns-3 : tie.Need-returns-3
 unfolding withBase
-returns-3 c = let r = clock-reads _ (obeys (c .before)) in sym (seconds-done _ _ (obeys (c .before)) (omega arith))
+returns-3 c =
+    let ok = obeys (c .before .before) in
+    let r = clock-reads _ ok .time in
+    sym (seconds-done _ _ ok (omega arith))
 
 pub seconds-spec : {M : Type 1} → statement M
-seconds-spec = tie.close (tie.spec clock-ok-requires returns sub-if2 returns-2 add-after returns-3)
+seconds-spec = tie.close (tie.spec clock-ok-requires returns sub-if2 returns-2 add-later returns-3)

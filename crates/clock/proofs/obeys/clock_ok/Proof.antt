@@ -1,86 +1,23 @@
--- `clock_ok` is `clockB`: each part by its rule.
+-- `clock_ok` is `clockB`: the time's rule and the report's.
 -- Assumes nothing.
 use Rattle.clock.specs.Rules.{clockB}
 use borrow.Author.Needs.{needs}
 use Rattle.clock.proofs.obeys.clock_ok.Statement.{statement}
 use Rattle.clock.proofs.obeys.clock_ok.Tie as tie
 
-zone-ok-requires : tie.Need-zone-ok-requires
-zone-ok-requires c κs = search needs
-
-dst-ok-requires : tie.Need-dst-ok-requires
-dst-ok-requires c κs = search needs
-
-both-requires : tie.Need-both-requires
-both-requires c κs = search needs
-
-source-ok-requires : tie.Need-source-ok-requires
-source-ok-requires c κs = search needs
-
-status-ok-requires : tie.Need-status-ok-requires
-status-ok-requires c κs = search needs
-
-both-requires-2 : tie.Need-both-requires-2
-both-requires-2 c κs = search needs
-
-base-ok-requires : tie.Need-base-ok-requires
-base-ok-requires c κs = search needs
+time-ok-requires : tie.Need-time-ok-requires
+time-ok-requires c κs = search needs
 
 running-ok-requires : tie.Need-running-ok-requires
 running-ok-requires c κs = search needs
 
-both-requires-3 : tie.Need-both-requires-3
-both-requires-3 c κs = search needs
-
-base-ok-requires-2 : tie.Need-base-ok-requires-2
-base-ok-requires-2 c κs = search needs
-
-both-requires-4 : tie.Need-both-requires-4
-both-requires-4 c κs = search needs
-
-both-requires-5 : tie.Need-both-requires-5
-both-requires-5 c κs = search needs
-
-both-requires-6 : tie.Need-both-requires-6
-both-requires-6 c κs = search needs
+both-requires : tie.Need-both-requires
+both-requires c κs = search needs
 
 returns : tie.Need-returns
 unfolding clockB
 returns c =
-    let kept = c .before .before .before .before in
-    let quality = kept .before .before .before in
-    let place = quality .before .before .before in
-    simp (
-      c .both6 .ensures,
-      c .before .both5 .ensures,
-      c .before .before .both4 .ensures,
-      c .before .before .before .base-ok2 .ensures,
-      kept .both3 .ensures,
-      kept .before .running-ok .ensures,
-      kept .before .before .base-ok .ensures,
-      quality .both2 .ensures,
-      quality .before .status-ok .ensures,
-      quality .before .before .source-ok .ensures,
-      place .both .ensures,
-      place .before .dst-ok .ensures,
-      place .before .before .zone-ok .ensures,
-    )
+    simp (c .both .ensures, c .before .running-ok .ensures, c .before .before .time-ok .ensures)
 
 pub clock-ok-spec : {M : Type 1} → statement M
-clock-ok-spec =
-    tie.close
-    (tie.spec
-    zone-ok-requires
-    dst-ok-requires
-    both-requires
-    source-ok-requires
-    status-ok-requires
-    both-requires-2
-    base-ok-requires
-    running-ok-requires
-    both-requires-3
-    base-ok-requires-2
-    both-requires-4
-    both-requires-5
-    both-requires-6
-    returns)
+clock-ok-spec = tie.close (tie.spec time-ok-requires running-ok-requires both-requires returns)
