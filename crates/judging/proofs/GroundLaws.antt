@@ -9,17 +9,17 @@ use Rattle.octets.specs.Choice.{both}
 use Rattle.octets.proofs.Tests.{both-reads}
 use Rattle.rules.specs.Rules.{baseB, zoneB, dstB, sourceB}
 use Rattle.rules.proofs.RangeLaws.{base-reads}
-use Rattle.clock.specs.declared.state.Clock.{Clock}
+use Rattle.clock.specs.declared.state.Time.{Time}
 use Rattle.judging.specs.Grounds.{unrealistic, outOfRange, lowerQuality, wrongEpoch, epochB, rangeB, lowerB, unrealisticB, flagIf, groundsOf, InRange}
 use Rattle.judging.specs.declared.proposal.Proposal.{Proposal}
 
 -- the flags told one after the other, last ground first, are all that apply
-pub grounds-told : (c : Clock) (p : Proposal) (forced far lower range epoch : Bool) (told1 told2 told3 told4 : ℕ)
-    → far ≡ both (not forced) (unrealisticB c p) → lower ≡ both (not forced) (lowerB c p) → range ≡ rangeB p → epoch ≡ epochB p
+pub grounds-told : (t : Time) (p : Proposal) (forced far lower range epoch : Bool) (told1 told2 told3 told4 : ℕ)
+    → far ≡ both (not forced) (unrealisticB t p) → lower ≡ both (not forced) (lowerB t p) → range ≡ rangeB p → epoch ≡ epochB p
     → told1 ≡ 0 + flagIf far unrealistic → told2 ≡ told1 + flagIf lower lowerQuality → told3 ≡ told2 + flagIf range outOfRange
-    → told4 ≡ told3 + flagIf epoch wrongEpoch → told4 ≡ groundsOf c p forced
+    → told4 ≡ told3 + flagIf epoch wrongEpoch → told4 ≡ groundsOf t p forced
 unfolding groundsOf
-grounds-told c p forced far lower range epoch told1 told2 told3 told4 hf hl hr he h1 h2 h3 h4 = rw (sym hf, sym hl, sym hr, sym he) (omega arith)
+grounds-told t p forced far lower range epoch told1 told2 told3 told4 hf hl hr he h1 h2 h3 h4 = rw (sym hf, sym hl, sym hr, sym he) (omega arith)
 
 range-reads : (p : Proposal) → rangeB p ≡ false → InRange p
 unfolding rangeB
@@ -42,6 +42,6 @@ unfolding flagIf
 flag-off true h = absurd (omega arith)
 flag-off false h = refl
 
-pub grounds-none : (c : Clock) (p : Proposal) (forced : Bool) → groundsOf c p forced ≡ 0 → InRange p
+pub grounds-none : (t : Time) (p : Proposal) (forced : Bool) → groundsOf t p forced ≡ 0 → InRange p
 unfolding groundsOf
-grounds-none c p forced h = range-reads p (flag-off (rangeB p) (omega arith))
+grounds-none t p forced h = range-reads p (flag-off (rangeB p) (omega arith))

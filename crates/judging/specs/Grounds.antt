@@ -5,7 +5,7 @@ use Prim.Native.Nat.{ℕ, _+_, _-_, _≤_}
 use lib.Dec.{ltb, eqb}
 use Rattle.octets.specs.Choice.{both, pick}
 use Rattle.rules.specs.Rules.{firstBaseTime, lastBaseTime, baseB, zoneB, dstB, sourceB, alignedBit}
-use Rattle.clock.specs.declared.state.Clock.{Clock}
+use Rattle.clock.specs.declared.state.Time.{Time}
 use Rattle.judging.specs.Proposal.{epochFlag}
 use Rattle.judging.specs.Grades.{clockGrade, gradeOf}
 use Rattle.judging.specs.declared.proposal.Proposal.{Proposal}
@@ -39,28 +39,28 @@ unfoldable pub rangeB : Proposal → Bool
 rangeB p = not (both (baseB (p .base)) (both (both (zoneB (p .zone)) (dstB (p .dst))) (sourceB (p .source))))
 
 -- "the proposal's grade is below the clock's"
-unfoldable pub lowerB : Clock → Proposal → Bool
-lowerB c p = ltb (gradeOf p) (clockGrade (c .status))
+unfoldable pub lowerB : Time → Proposal → Bool
+lowerB t p = ltb (gradeOf p) (clockGrade (t .status))
 
 -- the difference "either way": the larger minus the smaller
 unfoldable pub secondsApart : ℕ → ℕ → ℕ
 secondsApart a b = pick (ltb a b) (b - a) (a - b)
 
 -- "clock UTC aligned and the difference exceeds 86,400 seconds either way"
-unfoldable pub unrealisticB : Clock → Proposal → Bool
-unrealisticB c p = both (eqb (alignedBit (c .status)) 1) (ltb realisticSeconds (secondsApart (c .base) (p .base)))
+unfoldable pub unrealisticB : Time → Proposal → Bool
+unrealisticB t p = both (eqb (alignedBit (t .status)) 1) (ltb realisticSeconds (secondsApart (t .base) (p .base)))
 
 -- a flag where its ground applies
 unfoldable pub flagIf : Bool → ℕ → ℕ
 flagIf b f = pick b f 0
 
 -- "every ground is tested and all flags that apply go into" the response; lower quality and unrealistic are "(Propose only)"
-unfoldable pub groundsOf : Clock → Proposal → Bool → ℕ
-groundsOf c p forced =
+unfoldable pub groundsOf : Time → Proposal → Bool → ℕ
+groundsOf t p forced =
     flagIf (epochB p) wrongEpoch
     + flagIf (rangeB p) outOfRange
-    + flagIf (both (not forced) (lowerB c p)) lowerQuality
-    + flagIf (both (not forced) (unrealisticB c p)) unrealistic
+    + flagIf (both (not forced) (lowerB t p)) lowerQuality
+    + flagIf (both (not forced) (unrealisticB t p)) unrealistic
 
 -- What a proposal without a ground is known to be.
 pub record InRange (p : Proposal) : Type 0 where

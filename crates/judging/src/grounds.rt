@@ -3,7 +3,7 @@
 use crate::grades::clock_grade;
 use crate::grades::grade_of;
 use crate::proposal::Proposal;
-use clock::state::Clock;
+use clock::state::Time;
 use octets::choice::both;
 use rules::fields::base_ok;
 use rules::fields::dst_ok;
@@ -55,28 +55,28 @@ fn out_of_range(p: Proposal) -> bool
     !inside
 }
 
-fn lower_quality(c: Clock, p: Proposal) -> bool
-    ensures { λ r. ⌜ r ≡ lowerB c p ⌝ }
+fn lower_quality(time: Time, p: Proposal) -> bool
+    ensures { λ r. ⌜ r ≡ lowerB time p ⌝ }
 {
-    grade_of(p) < clock_grade(c.status)
+    grade_of(p) < clock_grade(time.status)
 }
 
-fn unrealistic(c: Clock, p: Proposal) -> bool
-    ensures { λ r. ⌜ r ≡ unrealisticB c p ⌝ }
+fn unrealistic(time: Time, p: Proposal) -> bool
+    ensures { λ r. ⌜ r ≡ unrealisticB time p ⌝ }
 {
-    let aligned = c.status / 2 % 2 == 1;
-    let apart = seconds_apart(c.base, p.base);
+    let aligned = time.status / 2 % 2 == 1;
+    let apart = seconds_apart(time.base, p.base);
     both(aligned, REALISTIC_SECONDS < apart)
 }
 
 // All flags that apply, whichever came before; 0 where there is no ground. Quality and realism are asked of
 // a Propose only.
-pub fn grounds(c: Clock, p: Proposal, forced: bool) -> u16
-    ensures { λ r. ⌜ r ≡ groundsOf c p forced ⌝ }
+pub fn grounds(time: Time, p: Proposal, forced: bool) -> u16
+    ensures { λ r. ⌜ r ≡ groundsOf time p forced ⌝ }
 {
     let proposed = !forced;
-    let far = also(0, both(proposed, unrealistic(c, p)), UNREALISTIC);
-    let lower = also(far, both(proposed, lower_quality(c, p)), LOWER_QUALITY);
+    let far = also(0, both(proposed, unrealistic(time, p)), UNREALISTIC);
+    let lower = also(far, both(proposed, lower_quality(time, p)), LOWER_QUALITY);
     let range = also(lower, out_of_range(p), OUT_OF_RANGE);
     also(range, wrong_epoch(p), WRONG_EPOCH)
 }

@@ -23,11 +23,11 @@ module _ (c : Clock) (w : List ℕ) (forced : Bool) where
   unfolding operandOf
   operand-short h = rw (ne-eqb (length w) updateWriteBytes h)
 
-  sized-operand : length w ≡ updateWriteBytes → operandOf c w forced ≡ judged (proposalAt w) (groundsOf c (proposalAt w) forced)
+  sized-operand : length w ≡ updateWriteBytes → operandOf c w forced ≡ judged (proposalAt w) (groundsOf (c .time) (proposalAt w) forced)
   unfolding operandOf
   sized-operand h = rw (eq-eqb (length w) updateWriteBytes h)
 
-  module _ (p : Proposal) (flags : ℕ) (size : length w ≡ updateWriteBytes) (read : p ≡ proposalAt w) (found : flags ≡ groundsOf c p forced) where
+  module _ (p : Proposal) (flags : ℕ) (size : length w ≡ updateWriteBytes) (read : p ≡ proposalAt w) (found : flags ≡ groundsOf (c .time) p forced) where
     judged-operand : operandOf c w forced ≡ judged p flags
     judged-operand = sized-operand size ∙ cc
 
@@ -41,17 +41,17 @@ module _ (c : Clock) (w : List ℕ) (forced : Bool) where
 
 -- a decision that is `Taken` comes from a write of the right length with no ground
 operand-reads : (c : Clock) (w : List ℕ) (forced : Bool) (p : Proposal) → operandOf c w forced ≡ Taken p
-    → (p ≡ proposalAt w) × ((length w ≡ updateWriteBytes) × (groundsOf c p forced ≡ 0))
+    → (p ≡ proposalAt w) × ((length w ≡ updateWriteBytes) × (groundsOf (c .time) p forced ≡ 0))
 unfolding operandOf judged
 operand-reads c w forced p h =
-    go (eqb (length w) updateWriteBytes) (eqb (groundsOf c (proposalAt w) forced) 0) refl refl h
+    go (eqb (length w) updateWriteBytes) (eqb (groundsOf (c .time) (proposalAt w) forced) 0) refl refl h
   where
-    go : (size none : Bool) → eqb (length w) updateWriteBytes ≡ size → eqb (groundsOf c (proposalAt w) forced) 0 ≡ none
-        → pick size (pick none (Taken (proposalAt w)) (Rejected (groundsOf c (proposalAt w) forced))) WrongLength ≡ Taken p
-        → (p ≡ proposalAt w) × ((length w ≡ updateWriteBytes) × (groundsOf c p forced ≡ 0))
+    go : (size none : Bool) → eqb (length w) updateWriteBytes ≡ size → eqb (groundsOf (c .time) (proposalAt w) forced) 0 ≡ none
+        → pick size (pick none (Taken (proposalAt w)) (Rejected (groundsOf (c .time) (proposalAt w) forced))) WrongLength ≡ Taken p
+        → (p ≡ proposalAt w) × ((length w ≡ updateWriteBytes) × (groundsOf (c .time) p forced ≡ 0))
     go true true s n e =
         let q : p ≡ proposalAt w = cc in
-        (q, (eqb-true (length w) updateWriteBytes s, rw q (eqb-true (groundsOf c (proposalAt w) forced) 0 n)))
+        (q, (eqb-true (length w) updateWriteBytes s, rw q (eqb-true (groundsOf (c .time) (proposalAt w) forced) 0 n)))
     go true false s n e = let z : _≡_ {A = ℕ} 0 1 = cc in absurd (omega arith)
     go false none s n e = let z : _≡_ {A = ℕ} 0 1 = cc in absurd (omega arith)
 
@@ -66,7 +66,7 @@ taken-reads c w p h = go (eqb (at w 0) proposeOpcode) (eqb (at w 0) forceOpcode)
           proposal = r .0;
           size = r .1 .0;
           none = rw f (r .1 .1);
-          in-range = grounds-none c p forced (r .1 .1);
+          in-range = grounds-none (c .time) p forced (r .1 .1);
         }
 
     go : (propose force : Bool) → eqb (at w 0) proposeOpcode ≡ propose → eqb (at w 0) forceOpcode ≡ force

@@ -28,7 +28,7 @@ judged p flags = pick (eqb flags 0) (Taken p) (Rejected flags)
 -- "A wrong operand length, second fractions included, gives Invalid Operand 0x03. Otherwise every ground is tested"
 unfoldable pub operandOf : Clock → List ℕ → Bool → Decision
 operandOf c w forced =
-    pick (eqb (length w) updateWriteBytes) (judged (proposalAt w) (groundsOf c (proposalAt w) forced)) WrongLength
+    pick (eqb (length w) updateWriteBytes) (judged (proposalAt w) (groundsOf (c .time) (proposalAt w) forced)) WrongLength
 
 -- "An unknown opcode gives 0x02, as does a procedure left out": whatever follows it
 unfoldable pub decideOf : Clock → List ℕ → Decision
@@ -41,5 +41,5 @@ decideOf c w =
 pub record TakenFrom (c : Clock) (w : List ℕ) (p : Proposal) : Type 0 where
   pub proposal : p ≡ proposalAt w
   pub size : length w ≡ updateWriteBytes
-  pub none : groundsOf c p (eqb (at w 0) forceOpcode) ≡ 0
+  pub none : groundsOf (c .time) p (eqb (at w 0) forceOpcode) ≡ 0
   pub in-range : InRange p

@@ -32,7 +32,8 @@ fn decide_operand(c: Clock, write: &[u8], forced: bool) -> Decision
         return Decision::WrongLength;
     }
     let p = proposal_at(write);
-    let flags = grounds(c, p, forced);
+    let time = c.time;
+    let flags = grounds(time, p, forced);
     if flags == 0 {
         return Decision::Taken(p);
     }

@@ -43,7 +43,7 @@ returns c =
     let quality = lower .before .before in
     let far = quality .before in
     let a = far .before .before .before .args in
-    grounds-told (a .c) (a .p) (a .forced) _ _ _ _ _ _ _ _
+    grounds-told (a .time) (a .p) (a .forced) _ _ _ _ _ _ _ _
     (far .before .both .ensures ∙ simp (far .before .before .unrealistic .ensures))
     (lower .before .both2 .ensures ∙ simp (quality .lower-quality .ensures))
     (range .before .out-of-range .ensures)

@@ -17,12 +17,12 @@ grounds-requires c κs = search needs
 
 returns-2 : tie.Need-returns-2
 returns-2 c =
-    let b = c .before .before in
+    let b = c .before .before .before in
     sym (operand-taken _ _ _ _ _ (b .before .if1 .left) (b .proposal-at .ensures) (c .before .grounds .ensures) (c .if2 .taken))
 
 returns-3 : tie.Need-returns-3
 returns-3 c =
-    let b = c .before .before in
+    let b = c .before .before .before in
     sym (operand-rejected _ _ _ _ _ (b .before .if1 .left) (b .proposal-at .ensures) (c .before .grounds .ensures) (c .if2 .left))
 
 pub decide-operand-spec : {M : Type 1} → statement M
