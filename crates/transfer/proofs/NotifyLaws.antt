@@ -13,6 +13,7 @@ use Rattle.octets.proofs.Tests.{both-reads}
 use Rattle.layout.specs.Layout.{bytesOf}
 use Rattle.record.specs.declared.kinds.Record.{Record}
 use Rattle.table.specs.Table.{held, ageOf, soundB}
+use Rattle.clock.specs.State.{withRunning}
 use Rattle.clock.specs.Answers.{numberOf}
 use Rattle.clock.specs.declared.answers.Answer.{Answer}
 use Rattle.clock.specs.declared.answers.Answer.the-variants.{Done, NothingRunning}
@@ -27,7 +28,7 @@ use Rattle.clock.proofs.RuleLaws.{clock-reads, running-reads}
 use Rattle.refusals.specs.Outcome.{doneB}
 use Rattle.refusals.specs.Rows.{row, firstFailed, thenOf, leftB, runningB, idleB, tableRows}
 use Rattle.refusals.proofs.RowLaws.{rows-append, table-refuse, TableRows, whole-reads}
-use Rattle.asking.specs.Report.{report, withRunning, bytesIn}
+use Rattle.asking.specs.Report.{report, bytesIn}
 use Rattle.transfer.specs.Notify.{Notice, roomB, notifyRows, counterAfter, segmentOf, leftAfter, saidOf, notice, unsaid, noticed, runningNotice, notifyOf}
 
 -- a segment of the next record r₀ was laid down, and the report goes on

@@ -10,6 +10,7 @@ use Rattle.octets.specs.Parts.{over}
 use Rattle.filter.specs.declared.request.Filter.{Filter}
 use Rattle.table.specs.Table.{held, ageOf}
 use Rattle.held.specs.Matching.{matching}
+use Rattle.clock.specs.State.{withRunning}
 use Rattle.clock.specs.declared.answers.Answer.{Answer}
 use Rattle.clock.specs.declared.answers.Answer.the-variants.{Done, NothingRunning}
 use Rattle.clock.specs.declared.state.Clock.{Clock}
@@ -23,7 +24,7 @@ use Rattle.refusals.specs.Rows.{Row, row, firstFailed, idleB, tableRows}
 use Rattle.access.specs.Request.{reportOpcode, combinedOpcode}
 use Rattle.access.specs.Response.{combinedResponse, codeBytes, countBytes}
 use Rattle.access.specs.declared.codes.Code.the-variants.{Success}
-use Rattle.asking.specs.Report.{report, withRunning, bytesIn, leftFrom}
+use Rattle.asking.specs.Report.{report, bytesIn, leftFrom}
 use Rattle.transfer.specs.declared.notify.Notified.{Notified}
 
 -- row 3: "for a notification, payload size P outside 20 to 244 or output shorter than P"

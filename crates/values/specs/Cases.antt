@@ -9,7 +9,7 @@ use Rattle.table.specs.Table.{sizeB, startB, emptyB, fieldsB, headB, slots, rin
 use Rattle.log.specs.Writing.{fresh}
 use Rattle.clock.specs.Answers.{numberOf}
 use Rattle.clock.specs.State.{newReader}
-use Rattle.clock.specs.Rules.{clockB}
+use Rattle.clock.specs.Rules.{clockB, timeB}
 use Rattle.clock.specs.Rules as clock
 use Rattle.clock.specs.Events.{withBase}
 use Rattle.clock.specs.declared.state.Clock.{Clock}
@@ -54,7 +54,7 @@ table =
 
 -- `deviceTimeOf` of a case with all that it cites laid open, for the checker to compute
 unfoldable pub got : Case → Read
-unfolding deviceTimeOf deviceTimeBytes answered doneB numberOf firstFailed tableRows wholeB runningB clockB clock.runningB baseB zoneB dstB sourceB statusB bitsB soundB headB sizeB startB emptyB fieldsB slots ring rowB zerosB over fresh newReader withBase
+unfolding deviceTimeOf deviceTimeBytes answered doneB numberOf firstFailed tableRows wholeB runningB clockB timeB clock.runningB baseB zoneB dstB sourceB statusB bitsB soundB headB sizeB startB emptyB fieldsB slots ring rowB zerosB over fresh newReader withBase
 got k =
     let u = deviceTimeOf (k .clock) (k .table) (room (k .room)) in
     read (numberOf (u .reply .answer)) (u .reply .len) (u .output)

@@ -27,7 +27,7 @@ parametersBytes = 0xff ∷ 0xff ∷ 0 ∷ 0 ∷ []
 
 -- Table 3.6: Base_Time 4, Time_Zone 1, DST_Offset 1, DT_Status 2, Next_Sequence_Number 2
 unfoldable pub deviceTimeBytes : Clock → ℕ → List ℕ
-deviceTimeBytes c n = bytes4 (c .base) ++ (c .zone ∷ c .dst ∷ (bytes2 (c .status) ++ bytes2 n))
+deviceTimeBytes c n = bytes4 (c .time .base) ++ (c .time .zone ∷ c .time .dst ∷ (bytes2 (c .time .status) ++ bytes2 n))
 
 -- rows 1, 2, 3; clock and table stay
 unfoldable pub deviceTimeOf : Clock → List ℕ → List ℕ → Outcome

@@ -29,14 +29,14 @@ fn device_time_bytes(c: Clock, next: u16) -> [u8; 10]
     ensures { λ r. ⌜ r ≡ deviceTimeBytes c next ⌝ }
 {
     [
-        (c.base % 256) as u8,
-        (c.base / 256 % 256) as u8,
-        (c.base / 65536 % 256) as u8,
-        (c.base / 16777216 % 256) as u8,
-        c.zone,
-        c.dst,
-        (c.status % 256) as u8,
-        (c.status / 256 % 256) as u8,
+        (c.time.base % 256) as u8,
+        (c.time.base / 256 % 256) as u8,
+        (c.time.base / 65536 % 256) as u8,
+        (c.time.base / 16777216 % 256) as u8,
+        c.time.zone,
+        c.time.dst,
+        (c.time.status % 256) as u8,
+        (c.time.status / 256 % 256) as u8,
         (next % 256) as u8,
         (next / 256 % 256) as u8,
     ]
