@@ -11,6 +11,7 @@ use Rattle.octets.specs.Parts.{over}
 use Rattle.octets.proofs.Tests.{clash}
 use Rattle.filter.specs.declared.request.Filter.{Filter}
 use Rattle.held.specs.Matching.{matching}
+use Rattle.clock.specs.State.{withRunning}
 use Rattle.clock.specs.Answers.{numberOf}
 use Rattle.clock.specs.Rules.{filterB}
 use Rattle.clock.specs.declared.answers.Answer.{Answer}
@@ -32,7 +33,7 @@ use Rattle.access.specs.declared.request.Asked.{Asked}
 use Rattle.access.specs.declared.request.Asked.the-variants as asked
 use Rattle.access.specs.declared.request.Request.{Request}
 use Rattle.access.specs.declared.request.Request.the-variants.{Report, Number, Abort, Refused}
-use Rattle.asking.specs.Report.{report, withRunning, numberIn, noneB}
+use Rattle.asking.specs.Report.{report, numberIn, noneB}
 use Rattle.asking.specs.Access.{accessRows, accessed, begunOf, abortedOf, accessedOf, accessOf}
 use Rattle.transfer.specs.Notify.{notifyRows, unsaid, noticed, runningNotice, notifyOf}
 use Rattle.outcomes.specs.OfTransfer.{Silent, RefusedUnchanged, Read, nothingFoundB, nothingB, AcceptedWhenMatching, NumberCounts}

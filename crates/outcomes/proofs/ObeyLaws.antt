@@ -24,6 +24,7 @@ use Rattle.held.specs.declared.matching.Found.the-variants as found
 use Rattle.table.proofs.HeadLaws.{sound-head}
 use Rattle.log.proofs.HistoryLaws.{consecutive}
 use Rattle.held.proofs.LookLaws.{slotAt, drop-held}
+use Rattle.clock.specs.State.{withRunning}
 use Rattle.clock.specs.Rules.{opcodeB, filterB, clockB}
 use Rattle.clock.specs.Rules as rules
 use Rattle.clock.specs.declared.state.Clock.{Clock}
@@ -32,7 +33,8 @@ use Rattle.clock.specs.declared.state.Left.the-variants.{Nothing, From}
 use Rattle.clock.specs.declared.state.Report.{Report}
 use Rattle.clock.specs.declared.state.Running.{Running}
 use Rattle.clock.specs.declared.state.Running.the-variants.{Idle, Reporting}
-use Rattle.clock.proofs.RuleLaws.{clock-reads, clock-makes, running-reads, running-makes}
+use Rattle.clock.proofs.RuleLaws.{clock-reads, running-reads, running-makes}
+use Rattle.clock.proofs.EventLaws.{with-running-obeys}
 use Rattle.refusals.specs.Outcome.{doneB, answered}
 use Rattle.refusals.specs.Rows.{firstFailed, unsentB, leftB, runningB, wholeB}
 use Rattle.refusals.proofs.RowLaws.{whole-reads, whole-with}
@@ -40,7 +42,7 @@ use Rattle.access.specs.Request.{opcodeIn, requestOf}
 use Rattle.access.specs.declared.request.Request.{Request}
 use Rattle.access.specs.declared.request.Request.the-variants as request
 use Rattle.access.proofs.RequestLaws.{report-reads, asked-for}
-use Rattle.asking.specs.Report.{withRunning, numberIn, bytesIn, leftAt, leftFrom}
+use Rattle.asking.specs.Report.{numberIn, bytesIn, leftAt, leftFrom}
 use Rattle.asking.specs.Access.{accessRows, accessed, begunOf, abortedOf, accessedOf, accessOf}
 use Rattle.transfer.specs.Notify.{lastB, leftAfter, notifyRows, saidOf, unsaid, noticed, runningNotice, notifyOf}
 use Rattle.outcomes.specs.OfTransfer.{Obeys}
@@ -123,21 +125,7 @@ after-obeys f t q n sent sd u = go (lastB q sent (nextBytes t n)) refl
 
 -- a clock with another report
 running-obeys : (c : Clock) (t : List ℕ) (r : Running) → clockB c ≡ true → rules.runningB r ≡ true → runningB t r ≡ true → wholeB (withRunning c r) t ≡ true
-unfolding withRunning
-running-obeys c t r ok alone with =
-    let k = clock-reads c ok in
-    whole-with (withRunning c r) t (clock-makes (withRunning c r) (record {
-      base-low = k .base-low;
-      base-high = k .base-high;
-      zone = k .zone;
-      dst = k .dst;
-      source = k .source;
-      status = k .status;
-      aligned-low = k .aligned-low;
-      aligned-high = k .aligned-high;
-      running = alone;
-    }))
-    ∙ with
+running-obeys c t r ok alone with = whole-with (withRunning c r) t (with-running-obeys c r ok alone) ∙ with
 
 idle-obeys : (c : Clock) (t : List ℕ) → clockB c ≡ true → wholeB (withRunning c Idle) t ≡ true
 unfolding rules.runningB runningB

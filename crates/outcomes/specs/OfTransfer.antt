@@ -11,6 +11,7 @@ use Rattle.filter.specs.declared.request.Filter.{Filter}
 use Rattle.record.specs.declared.kinds.Record.{Record}
 use Rattle.table.specs.Table.{soundB}
 use Rattle.held.specs.Matching.{matching}
+use Rattle.clock.specs.State.{withRunning}
 use Rattle.clock.specs.declared.state.Clock.{Clock}
 use Rattle.clock.specs.declared.state.Left.{Left}
 use Rattle.clock.specs.declared.state.Left.the-variants.{From}
@@ -25,7 +26,7 @@ use Rattle.access.specs.Response.{numberResponse, codeResponse, codeBytes, coun
 use Rattle.access.specs.declared.codes.Code.the-variants.{NoRecordsFound}
 use Rattle.access.specs.declared.request.Request.{Request}
 use Rattle.access.specs.declared.request.Request.the-variants.{Report, Number, Abort, Refused}
-use Rattle.asking.specs.Report.{report, withRunning, numberIn, leftFrom, noneB}
+use Rattle.asking.specs.Report.{report, numberIn, leftFrom, noneB}
 use Rattle.asking.specs.Access.{accessRows, accessOf}
 use Rattle.transfer.specs.Notify.{Notice, unsaid, notifyOf}
 

@@ -6,6 +6,7 @@ use Prim.Native.Nat.{ℕ, _+_}
 use Rattle.octets.specs.Numbers.{bytes2, bytes4}
 use Rattle.record.specs.declared.kinds.Record.{Record}
 use Rattle.clock.specs.declared.state.Clock.{Clock}
+use Rattle.clock.specs.declared.state.Time.{Time}
 use Rattle.judging.specs.Proposal.{proposalAt}
 use Rattle.judging.specs.Grades.{clockGrade, gradeOf}
 use Rattle.judging.specs.Grounds.{secondsApart, unrealistic, outOfRange, lowerQuality, wrongEpoch, groundsOf}
@@ -24,7 +25,7 @@ pub record OneOutcome : Type 0 where
   pub clock-grade : (s x y : ℕ) → x ≡ clockGrade s → y ≡ clockGrade s → x ≡ y
   pub grade-of : (p : Proposal) (x y : ℕ) → x ≡ gradeOf p → y ≡ gradeOf p → x ≡ y
   pub seconds-apart : (a b x y : ℕ) → x ≡ secondsApart a b → y ≡ secondsApart a b → x ≡ y
-  pub grounds : (c : Clock) (p : Proposal) (f : Bool) (x y : ℕ) → x ≡ groundsOf c p f → y ≡ groundsOf c p f → x ≡ y
+  pub grounds : (t : Time) (p : Proposal) (f : Bool) (x y : ℕ) → x ≡ groundsOf t p f → y ≡ groundsOf t p f → x ≡ y
   pub decide : (c : Clock) (w : List ℕ) (x y : Decision) → x ≡ decideOf c w → y ≡ decideOf c w → x ≡ y
   pub accepted : (c : Clock) (p : Proposal) (x y : Clock) → x ≡ acceptedOf c p → y ≡ acceptedOf c p → x ≡ y
   pub is-logged : (c : Clock) (p : Proposal) (x y : Bool) → x ≡ loggedB c p → y ≡ loggedB c p → x ≡ y

@@ -19,8 +19,10 @@ use Rattle.table.specs.Table.{sizeB, startB, emptyB, fieldsB, headB, slot, reco
 use Rattle.table.specs.Table as log
 use Rattle.held.specs.Matching.{matchingFrom, matching, firstFrom, nextMatch}
 use Rattle.log.specs.Writing.{fresh, placeOf, slotOf, headerAfter, appendOf, logAll}
+use Rattle.clock.specs.Events.{onOff}
+use Rattle.clock.specs.State.{withRunning}
 use Rattle.clock.specs.Answers.{numberOf}
-use Rattle.clock.specs.Rules.{opcodeB, filterB, counterB, reportB, clockB}
+use Rattle.clock.specs.Rules.{opcodeB, filterB, counterB, reportB, clockB, timeB}
 use Rattle.clock.specs.Rules as rules
 use Rattle.clock.specs.declared.answers.Answer.{Answer}
 use Rattle.clock.specs.declared.answers.Answer.the-variants.{Done, ClockBroken, OutputShort, WriteLength, SwitchedOff, ReportRunning, NothingRunning}
@@ -34,7 +36,7 @@ use Rattle.refusals.specs.Rows.{firstFailed, leftB, runningB, wholeB, tableRows
 use Rattle.access.specs.Codes.{codeOf}
 use Rattle.access.specs.Request.{operandBytes, typedB, filterAt, operandOf, askedOf, abortOf, requestOf}
 use Rattle.access.specs.Response.{codeBytes, countBytes}
-use Rattle.asking.specs.Report.{report, withRunning, numberIn, bytesIn, leftAt, leftFrom}
+use Rattle.asking.specs.Report.{report, numberIn, bytesIn, leftAt, leftFrom}
 use Rattle.asking.specs.Access.{accessRows, accessed, begunOf, abortedOf, accessedOf, accessOf}
 use Rattle.transfer.specs.Notify.{Notice, notice, unsaid, roomB, notifyRows, headerOf, segmentOf, leftAfter, closingOf, saidOf, noticed, runningNotice, notifyOf}
 
@@ -71,17 +73,8 @@ t4 = logAll (fresh 4) (update 0 0x19 800000000 631152000 ∷ update 1 0x16 80000
 abbrev on : Bool → Bool → Bool → Running → Clock
 on dtcp racp log r =
     record {
-      base = 800000070;
-      zone = 0x04;
-      dst = 0;
-      source = 2;
-      accuracy = 1;
-      status = 0x16;
-      faults = 0;
-      aligned = 800000070;
-      dtcp = dtcp;
-      racp = racp;
-      log = log;
+      time = record { base = 800000070; zone = 0x04; dst = 0; source = 2; accuracy = 1; status = 0x16; faults = 0; aligned = 800000070 };
+      switches = onOff dtcp racp log;
       running = r;
     }
 
@@ -99,17 +92,8 @@ quiet r = on true true false r
 abbrev faulty : ℕ → ℕ → ℕ → ℕ → ℕ → Running → Clock
 faulty base zone dst faults aligned r =
     record {
-      base = base;
-      zone = zone;
-      dst = dst;
-      source = 0;
-      accuracy = 255;
-      status = 0x19;
-      faults = faults;
-      aligned = aligned;
-      dtcp = true;
-      racp = true;
-      log = true;
+      time = record { base = base; zone = zone; dst = dst; source = 0; accuracy = 255; status = 0x19; faults = faults; aligned = aligned };
+      switches = onOff true true true;
       running = r;
     }
 
@@ -175,11 +159,11 @@ unfolding soundB headB sizeB fieldsB startB emptyB rowB slotB slot ring slots lo
 soundOpen t = soundB t
 
 unfoldable pub notified : Asking → Notice
-unfolding notifyOf notifyRows tableRows firstFailed doneB numberOf roomB wholeB runningB leftB clockB rules.runningB reportB opcodeB filterB counterB matchesB soundOpen held runningNotice noticed saidOf leftAfter leftFrom leftAt nextMatch firstFrom numberIn bytesIn bytesOf updateBytes faultBytes segmentOf headerOf closingOf matching matchingFrom countBytes codeBytes codeOf withRunning over
+unfolding notifyOf notifyRows tableRows firstFailed doneB numberOf roomB wholeB runningB leftB clockB timeB rules.runningB reportB opcodeB filterB counterB matchesB soundOpen held runningNotice noticed saidOf leftAfter leftFrom leftAt nextMatch firstFrom numberIn bytesIn bytesOf updateBytes faultBytes segmentOf headerOf closingOf matching matchingFrom countBytes codeBytes codeOf over
 notified k = notifyOf (k .clock) (k .table) (k .payload) (lent (k .room))
 
 unfoldable pub accessDone : Writing → Outcome
-unfolding accessOf accessRows tableRows writeRows firstFailed doneB numberOf wholeB runningB leftB clockB rules.runningB reportB opcodeB filterB counterB matchesB soundOpen held answered accessedOf accessed begunOf abortedOf leftFrom leftAt nextMatch firstFrom numberIn matching matchingFrom countBytes codeBytes codeOf requestOf askedOf abortOf operandOf filterAt typedB operandBytes withRunning over
+unfolding accessOf accessRows tableRows writeRows firstFailed doneB numberOf wholeB runningB leftB clockB timeB rules.runningB reportB opcodeB filterB counterB matchesB soundOpen held answered accessedOf accessed begunOf abortedOf leftFrom leftAt nextMatch firstFrom numberIn matching matchingFrom countBytes codeBytes codeOf requestOf askedOf abortOf operandOf filterAt typedB operandBytes over
 accessDone k = accessOf (k .clock) (k .table) (k .write) (lent 20)
 
 -- the tables laid open

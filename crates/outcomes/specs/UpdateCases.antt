@@ -7,6 +7,7 @@ use Prim.Native.Nat.{ℕ}
 use Rattle.octets.specs.Numbers.{at}
 use Rattle.rules.specs.Rules.{baseB, zoneB, dstB, sourceB}
 use Rattle.layout.specs.Layout.{updateBytes, bytesOf}
+use Rattle.clock.specs.Events.{onOff}
 use Rattle.clock.specs.declared.state.Clock.{Clock}
 use Rattle.clock.specs.declared.state.Running.the-variants.{Idle}
 use Rattle.judging.specs.Proposal.{proposalAt}
@@ -64,17 +65,8 @@ expected k = k .outcome
 abbrev on : ℕ → ℕ → ℕ → ℕ → ℕ → ℕ → ℕ → Clock
 on b z d o a t u =
     record {
-      base = b;
-      zone = z;
-      dst = d;
-      source = o;
-      accuracy = a;
-      status = t;
-      faults = 0;
-      aligned = u;
-      dtcp = true;
-      racp = true;
-      log = true;
+      time = record { base = b; zone = z; dst = d; source = o; accuracy = a; status = t; faults = 0; aligned = u };
+      switches = onOff true true true;
       running = Idle;
     }
 
