@@ -53,8 +53,8 @@ module _ (c : Clock) (t w o : List ℕ) where
   pub rows-passed : doneB (firstFailed (accessRows c t w o)) ≡ true → TableRows c t (leb 20 (length o)) × (free ≡ true)
   unfolding accessRows
   rows-passed h =
-      let x = table-done c t (leb 20 (length o)) (writeRows (length w) (both (c .racp) (c .log)) free) h in
-      (x .0, write-all (length w) (both (c .racp) (c .log)) free (x .1) .alone)
+      let x = table-done c t (leb 20 (length o)) (writeRows (length w) (both (c .switches .racp) (c .switches .log)) free) h in
+      (x .0, write-all (length w) (both (c .switches .racp) (c .switches .log)) free (x .1) .alone)
 
   -- an answered one passed them
   pub answered-passed : doneB (accessOf c t w o .reply .answer) ≡ true → doneB (firstFailed (accessRows c t w o)) ≡ true

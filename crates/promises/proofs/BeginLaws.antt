@@ -19,6 +19,7 @@ use Rattle.clock.specs.declared.state.Clock.{Clock}
 use Rattle.clock.specs.declared.state.Left.{Left}
 use Rattle.clock.specs.declared.state.Left.the-variants.{From}
 use Rattle.clock.proofs.RuleLaws.{running-makes}
+use Rattle.clock.proofs.EventLaws.{with-running-obeys}
 use Rattle.refusals.specs.Outcome.{doneB, answered}
 use Rattle.service.specs.Promises.{World, world}
 use Rattle.refusals.proofs.RowLaws.{whole-reads}
@@ -26,12 +27,12 @@ use Rattle.access.specs.Codes.{codeOf}
 use Rattle.access.specs.Request.{opcodeIn, requestOf}
 use Rattle.access.specs.Response.{codeBytes}
 use Rattle.access.specs.declared.request.Request.the-variants.{Report}
-use Rattle.asking.specs.Report.{report, withRunning, leftFrom}
+use Rattle.asking.specs.Report.{report, leftFrom}
 use Rattle.asking.specs.Access.{accessed, begunOf, accessedOf, responseIn, accessOf}
 use Rattle.promises.specs.World.{left}
 use Rattle.promises.specs.Reports.{responseTo, AcceptedReport, Accepted, begun}
 use Rattle.promises.proofs.HeldLaws.{Stands, none, some, left-stands}
-use Rattle.promises.proofs.RunLaws.{running-obeys, Runs}
+use Rattle.promises.proofs.RunLaws.{Runs}
 use Rattle.promises.proofs.RequestLaws.{request-report}
 use Rattle.promises.proofs.AccessLaws.{left-done, response-done, rows-passed, answered-passed}
 
@@ -48,11 +49,11 @@ module _ (t : List ℕ) (sd : soundB t ≡ true) (hb : Bytes t) (opcode : ℕ) (
     (h : (opcodeB opcode ≡ true) × (filterB f ≡ true)) where
   begins : {rest : Left} {sent : ℕ} {l : List Record} → Stands t sd f rest sent l → responseIn (begunOf c opcode f rest) ≡ []
       → Runs t sd hb opcode f (begunOf c opcode f rest .clock) 0 sent l
-  unfolding begunOf accessed codeBytes withRunning
+  unfolding begunOf accessed codeBytes
   begins none e = let n : _≡_ {A = ℕ} 4 0 = ap length e in absurd (omega arith)
   begins (some {number} {sent} {x} {rest} s) e =
       record {
-        clock = running-obeys c _ ok (running-makes (report opcode f 0 (From number sent)) (record { opcode = h .0; filter = h .1; counter = omega arith }));
+        clock = with-running-obeys c _ ok (running-makes (report opcode f 0 (From number sent)) (record { opcode = h .0; filter = h .1; counter = omega arith }));
         rest = From number sent;
         running = refl;
         stands = some s;

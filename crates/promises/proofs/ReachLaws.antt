@@ -14,6 +14,7 @@ use Rattle.filter.specs.Filter.{matchesB}
 use Rattle.filter.specs.declared.request.Filter.{Filter}
 use Rattle.record.specs.declared.kinds.Record.{Record}
 use Rattle.table.specs.Table.{count, held, ageOf}
+use Rattle.clock.specs.State.{withRunning}
 use Rattle.clock.specs.Rules.{opcodeB, filterB, runningB}
 use Rattle.clock.specs.declared.state.Left.{Left}
 use Rattle.clock.specs.declared.state.Left.the-variants.{Nothing, From}
@@ -21,6 +22,7 @@ use Rattle.clock.specs.declared.state.Report.{Report}
 use Rattle.clock.specs.declared.state.Running.{Running}
 use Rattle.clock.specs.declared.state.Running.the-variants.{Idle, Reporting}
 use Rattle.clock.proofs.RuleLaws.{clock-reads, running-reads, running-makes}
+use Rattle.clock.proofs.EventLaws.{with-running-obeys}
 use Rattle.refusals.specs.Outcome.{doneB}
 use Rattle.service.specs.Promises as service
 use Rattle.service.specs.Promises.{World, world, started, Good}
@@ -30,13 +32,13 @@ use Rattle.service.proofs.ReachLaws.{kept, started-good}
 use Rattle.service.proofs.ReachLaws as services
 use Rattle.access.specs.Request.{opcodeIn}
 use Rattle.access.specs.declared.request.Request.{Request}
-use Rattle.asking.specs.Report.{report, withRunning, bytesIn, leftFrom}
+use Rattle.asking.specs.Report.{report, bytesIn, leftFrom}
 use Rattle.asking.specs.Access.{accessRows, accessed, begunOf, abortedOf, accessedOf}
 use Rattle.transfer.specs.Notify.{notifyRows, counterAfter, lastB, leftAfter, saidOf, unsaid, noticed, runningNotice, notifyOf}
 use Rattle.promises.specs.World.{Call, seconds, switches, disconnect, fault, timeUpdate, recordAccess, notify, stepBy, stepOf, runOf}
 use Rattle.promises.proofs.RequestLaws.{Right, reports, numbers, ends, refuses, request-right}
 use Rattle.promises.proofs.HeldLaws.{left-stands}
-use Rattle.promises.proofs.RunLaws.{running-obeys, left-ok}
+use Rattle.promises.proofs.RunLaws.{left-ok}
 use Rattle.promises.proofs.AccessLaws.{left-refused, left-done}
 use Rattle.promises.proofs.ReportLaws.{heard-report, calm-calls}
 use Rattle.promises.specs.Reach.{Reachable, ReachedReport}
@@ -47,9 +49,8 @@ pub data Turned (v : World) : World → Type 0 where
   turns : (r : Running) → runningB r ≡ true → rows.runningB (v .table) r ≡ true → Turned v (world (withRunning (v .clock) r) (v .table))
 
 pub turned-good : {v w : World} → Good v → Turned v w → Good w
-unfolding withRunning
 turned-good g same = g
-turned-good {v} g (turns r ok left) = kept v (withRunning (v .clock) r) g (running-obeys (v .clock) r (g .clock) ok) left (g .faults)
+turned-good {v} g (turns r ok left) = kept v (withRunning (v .clock) r) g (with-running-obeys (v .clock) r (g .clock) ok) left (g .faults)
 
 ended : (v : World) → Turned v (world (withRunning (v .clock) Idle) (v .table))
 unfolding runningB rows.runningB

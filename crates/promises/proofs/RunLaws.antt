@@ -19,6 +19,7 @@ use Rattle.record.specs.declared.kinds.Record.{Record}
 use Rattle.record.specs.declared.kinds.Reading.the-variants.{Is}
 use Rattle.table.specs.Table.{count, held, ageOf, soundB}
 use Rattle.held.specs.Matching.{matching}
+use Rattle.clock.specs.State.{withRunning}
 use Rattle.clock.specs.Answers.{numberOf}
 use Rattle.clock.specs.Rules.{clockB, runningB}
 use Rattle.clock.specs.declared.answers.Answer.the-variants.{OutputShort}
@@ -27,7 +28,8 @@ use Rattle.clock.specs.declared.state.Left.{Left}
 use Rattle.clock.specs.declared.state.Left.the-variants.{Nothing, From}
 use Rattle.clock.specs.declared.state.Running.{Running}
 use Rattle.clock.specs.declared.state.Running.the-variants.{Reporting}
-use Rattle.clock.proofs.RuleLaws.{clock-reads, clock-makes, running-reads, running-makes}
+use Rattle.clock.proofs.RuleLaws.{clock-reads, running-reads, running-makes}
+use Rattle.clock.proofs.EventLaws.{with-running-obeys}
 use Rattle.refusals.specs.Outcome.{doneB}
 use Rattle.service.specs.Promises.{world}
 use Rattle.refusals.specs.Rows.{firstFailed, leftB, wholeB, tableRows}
@@ -35,28 +37,11 @@ use Rattle.refusals.specs.Rows as rows
 use Rattle.refusals.proofs.RowLaws.{left-held}
 use Rattle.access.specs.Response.{codeBytes, countBytes}
 use Rattle.access.specs.declared.codes.Code.the-variants.{Success}
-use Rattle.asking.specs.Report.{report, withRunning, bytesIn, leftFrom}
+use Rattle.asking.specs.Report.{report, bytesIn, leftFrom}
 use Rattle.transfer.specs.Notify.{roomB, notifyRows, counterAfter, lastB, segmentOf, leftAfter, closingOf, Said, saidOf, Notice, unsaid, noticed, runningNotice, notifyOf}
 use Rattle.promises.specs.World.{notify, stepBy, stepOf}
 use Rattle.promises.specs.Hearing.{nothing, segment, closing, heardIn, heardBy, heardOf}
 use Rattle.promises.proofs.HeldLaws.{Here, Stands, none, some, left-stands}
-
--- the clock obeys its rules with another report that does
-pub running-obeys : (c : Clock) (r : Running) → clockB c ≡ true → runningB r ≡ true → clockB (withRunning c r) ≡ true
-unfolding withRunning
-running-obeys c r h ok =
-    let k = clock-reads c h in
-    clock-makes (withRunning c r) (record {
-      base-low = k .base-low;
-      base-high = k .base-high;
-      zone = k .zone;
-      dst = k .dst;
-      source = k .source;
-      status = k .status;
-      aligned-low = k .aligned-low;
-      aligned-high = k .aligned-high;
-      running = ok;
-    })
 
 -- what a notification says is what is heard
 heard-noticed : (s : Said) (o : List ℕ) → heardIn (noticed s o) ≡ pick (s .closes) (closing (s .bytes)) (segment (s .bytes))
@@ -91,11 +76,10 @@ module _ (t : List ℕ) (sd : soundB t ≡ true) (hb : Bytes t) (opcode : ℕ) (
   -- the report goes on with other records left
   goes-on : {c : Clock} {k sent m : ℕ} {l ls : List Record} (rest : Left) → Runs c k sent l → Stands t sd f rest m ls
       → Runs (withRunning c (Reporting (report opcode f (counterAfter k) rest))) (counterAfter k) m ls
-  unfolding withRunning
   goes-on {c} {k} rest r s =
       let e = running-reads _ (ap runningB (sym (r .running)) ∙ clock-reads c (r .clock) .running) in
       record {
-        clock = running-obeys c _ (r .clock) (running-makes (report opcode f (counterAfter k) rest) (record {
+        clock = with-running-obeys c _ (r .clock) (running-makes (report opcode f (counterAfter k) rest) (record {
           opcode = e .opcode;
           filter = e .filter;
           counter = omega arith;

@@ -13,7 +13,7 @@ use Rattle.filter.specs.declared.request.Filter.{Filter}
 use Rattle.record.specs.declared.kinds.Record.{Record}
 use Rattle.table.specs.Table.{soundB}
 use Rattle.clock.specs.Rules.{opcodeB, clockB}
-use Rattle.clock.specs.Events.{withBase, withSwitches, disconnected}
+use Rattle.clock.specs.Events.{withBase, disconnected}
 use Rattle.clock.specs.declared.events.Event.{Event}
 use Rattle.clock.specs.declared.state.Clock.{Clock}
 use Rattle.clock.proofs.EventLaws.{Seconds, refuses-2, refuses-7, rises, Changed, changes, seconds-is, switches-is, disconnect-done}
@@ -29,7 +29,7 @@ use Rattle.service.proofs.UpdateLaws.{update-refused}
 use Rattle.access.specs.Request.{opcodeIn, requestOf}
 use Rattle.access.specs.declared.request.Request.{Request}
 use Rattle.access.specs.declared.request.Request.the-variants.{Abort}
-use Rattle.asking.specs.Report.{report, withRunning}
+use Rattle.asking.specs.Report.{report}
 use Rattle.asking.specs.Access.{accessRows, accessed, abortedOf, accessedOf, accessOf}
 use Rattle.transfer.specs.Notify.{roomB, Notice}
 use Rattle.promises.specs.World.{Call, seconds, switches, disconnect, fault, timeUpdate, recordAccess, notify, left, stepBy, stepOf}
@@ -71,7 +71,7 @@ module _ (t : List ℕ) (sd : soundB t ≡ true) (hb : Bytes t) (opcode : ℕ) (
     step-seconds n = still refl refl (keeps r (obeys .seconds c n (r .clock)) (seconds-running (seconds-is c n)))
 
     step-switches : (x y z : Bool) → Step c k sent l (switches x y z)
-    unfolding heardBy stepBy withSwitches
+    unfolding heardBy stepBy
     step-switches x y z = still refl refl (keeps r (obeys .switches c x y z (r .clock)) (changed-running (switches-is c x y z) refl))
 
     step-disconnect : Step c k sent l disconnect
@@ -97,7 +97,7 @@ module _ (t : List ℕ) (sd : soundB t ≡ true) (hb : Bytes t) (opcode : ℕ) (
     -- an answered Abort ends the report, a wrong one changes nothing
     step-abort : (w o : List ℕ) {q : Request} → Right (opcodeIn w) q → eqb (opcodeIn w) 3 ≡ true → requestOf w ≡ q
         → left (accessOf c t w o) ≡ world (accessedOf c t (opcodeIn w) q .clock) t → Step c k sent l (recordAccess w o)
-    unfolding heardBy stepBy calmB opcodeB accessedOf abortedOf accessed withRunning
+    unfolding heardBy stepBy calmB opcodeB accessedOf abortedOf accessed
     step-abort w o (reports a b) h q e = let z = eqb-true (opcodeIn w) 3 h in absurd (clash (opcodeB (opcodeIn w)) a (rw z refl))
     step-abort w o (numbers a) h q e = let z = eqb-true (opcodeIn w) 3 h in absurd (clash (eqb (opcodeIn w) 4) a (rw z refl))
     step-abort w o (ends a) h q e = ended {a = recordAccess w o} refl (ap (λ (v : World). idleB (v .clock .running)) e ∙ rw (r .running) refl) (rw q refl)

@@ -18,9 +18,9 @@ use Rattle.table.specs.Table.{sizeB, startB, emptyB, fieldsB, headB, slot, byte
 use Rattle.log.specs.Writing.{fresh, placeOf, slotOf, headerAfter, appendOf, logAll}
 use Rattle.held.specs.Matching.{firstFrom, nextMatch, matchingFrom, matching}
 use Rattle.clock.specs.Answers.{numberOf}
-use Rattle.clock.specs.Rules.{opcodeB, filterB, counterB, reportB, clockB}
+use Rattle.clock.specs.Rules.{opcodeB, filterB, counterB, reportB, timeB, clockB}
 use Rattle.clock.specs.Rules as clocks
-use Rattle.clock.specs.Events.{unlessBroken, withBase, withSwitches, secondsOf, switchesOf}
+use Rattle.clock.specs.Events.{unlessBroken, withBase, secondsOf, switchesOf, onOff}
 use Rattle.clock.specs.declared.state.Clock.{Clock}
 use Rattle.clock.specs.declared.state.Running.the-variants.{Idle}
 use Rattle.service.specs.Fault.{countAfter, faultRecord, faultedOf, endingOf, faultOf}
@@ -34,7 +34,7 @@ use Rattle.access.specs.Request.{operandBytes, typedB, filterAt, operandOf, ask
 use Rattle.access.specs.Response.{codeBytes, countBytes}
 use Rattle.access.specs.declared.request.Request.{Request}
 use Rattle.access.specs.declared.request.Request.the-variants.{Report}
-use Rattle.asking.specs.Report.{withRunning, numberIn, leftAt, leftFrom}
+use Rattle.asking.specs.Report.{numberIn, leftAt, leftFrom}
 use Rattle.asking.specs.Report as reports
 use Rattle.asking.specs.Access.{accessRows, accessed, begunOf, abortedOf, accessedOf, accessOf}
 use Rattle.transfer.specs.Notify.{roomB, notifyRows, headerOf, segmentOf, leftAfter, closingOf, saidOf, noticed, runningNotice, notifyOf}
@@ -95,17 +95,8 @@ table = logAll (fresh 3) (set 0 800000000 631152000 ∷ records)
 unfoldable pub reader : Clock
 reader =
     record {
-      base = 800000190;
-      zone = 4;
-      dst = 0;
-      source = 2;
-      accuracy = 1;
-      status = 0x16;
-      faults = 1;
-      aligned = 800000190;
-      dtcp = true;
-      racp = true;
-      log = true;
+      time = record { base = 800000190; zone = 4; dst = 0; source = 2; accuracy = 1; status = 0x16; faults = 1; aligned = 800000190 };
+      switches = onOff true true true;
       running = Idle;
     }
 
@@ -123,11 +114,11 @@ unfolding table reader
     sequenceOf updateBytes faultBytes bytesOf updateAt faultAt recordOf sizedB shapeB updateB faultB recordB wellFormedB readOf
     sizeB startB emptyB fieldsB headB slot bytesIn recordIn slots ring held slotB rowB soundB steps placeOf slotOf headerAfter appendOf
     firstFrom nextMatch matchingFrom matching
-    numberOf opcodeB filterB counterB reportB clockB unlessBroken withBase withSwitches secondsOf switchesOf clocks.runningB
+    numberOf opcodeB filterB counterB reportB timeB clockB unlessBroken withBase secondsOf switchesOf clocks.runningB
     countAfter faultRecord faultedOf endingOf faultOf doneB answered firstFailed leftB wholeB tableRows writeRows updateRows updateOf
     rows.runningB
     codeOf operandBytes typedB filterAt operandOf askedOf abortOf requestOf codeBytes countBytes
-    withRunning numberIn leftAt leftFrom accessRows accessed begunOf abortedOf accessedOf accessOf roomB notifyRows headerOf segmentOf
+    numberIn leftAt leftFrom accessRows accessed begunOf abortedOf accessedOf accessOf roomB notifyRows headerOf segmentOf
     leftAfter closingOf saidOf noticed runningNotice notifyOf reports.bytesIn
     emptyJoining rangesB filledB placedB followsB standing takesB ground takenOf joinOf
     stepBy heardIn heardBy hearingBy undisturbedB joinAll

@@ -8,6 +8,7 @@ use lib.Dec.{eqb}
 use lib.ListN.{take, drop}
 use Rattle.octets.specs.Choice.{pick}
 use Rattle.table.specs.Table.{held, ageOf}
+use Rattle.clock.specs.State.{withRunning}
 use Rattle.clock.specs.declared.answers.Answer.the-variants.{NothingRunning}
 use Rattle.clock.specs.declared.state.Clock.{Clock}
 use Rattle.clock.specs.declared.state.Left.{Left}
@@ -17,7 +18,7 @@ use Rattle.clock.specs.declared.state.Running.{Running}
 use Rattle.clock.specs.declared.state.Running.the-variants.{Idle, Reporting}
 use Rattle.refusals.specs.Outcome.{doneB}
 use Rattle.refusals.specs.Rows.{firstFailed}
-use Rattle.asking.specs.Report.{report, withRunning, bytesIn}
+use Rattle.asking.specs.Report.{report, bytesIn}
 use Rattle.transfer.specs.Notify.{notifyRows, headerOf, counterAfter, lastB, segmentOf, leftAfter, closingOf, Said, said, Notice, notice, unsaid, noticed, notifyOf}
 use Rattle.promises.specs.World.{Notifying}
 use Rattle.promises.specs.Reports.{FinishedReport}
