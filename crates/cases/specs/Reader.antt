@@ -14,8 +14,8 @@ use Rattle.table.specs.Table.{sizeB, startB, emptyB, fieldsB, headB, slot, byte
 use Rattle.log.specs.Writing.{fresh, startOf, placeOf, slotOf, headerAfter, appendOf}
 use Rattle.held.specs.Matching.{firstFrom, nextMatch, matchingFrom, matching}
 use Rattle.clock.specs.Answers.{numberOf}
-use Rattle.clock.specs.Events.{unlessBroken, withBase, withSwitches, secondsOf, switchesOf}
-use Rattle.clock.specs.Rules.{opcodeB, filterB, counterB, reportB, clockB}
+use Rattle.clock.specs.Events.{unlessBroken, withBase, secondsOf, switchesOf}
+use Rattle.clock.specs.Rules.{opcodeB, filterB, counterB, reportB, clockB, timeB}
 use Rattle.clock.specs.Rules as clocks
 use Rattle.clock.specs.State.{newReader}
 use Rattle.clock.specs.declared.events.Event.{Event}
@@ -35,7 +35,7 @@ use Rattle.access.specs.Codes.{codeOf}
 use Rattle.access.specs.Request.{operandBytes, typedB, filterAt, askedOf, abortOf, requestOf}
 use Rattle.access.specs.Request as requests
 use Rattle.access.specs.Response.{codeBytes, countBytes}
-use Rattle.asking.specs.Report.{withRunning, numberIn, leftAt, leftFrom}
+use Rattle.asking.specs.Report.{numberIn, leftAt, leftFrom}
 use Rattle.asking.specs.Report as reports
 use Rattle.asking.specs.Access.{accessRows, accessed, begunOf, abortedOf, accessedOf, accessOf}
 use Rattle.transfer.specs.Notify.{Notice, roomB, notifyRows, headerOf, segmentOf, leftAfter, closingOf, saidOf, noticed, runningNotice, notifyOf}
@@ -67,22 +67,22 @@ longOutput = replicate 244 0xaa
 
 -- "New reader, switches on"
 unfoldable pub started : World
-unfolding newReaderOf startOf fresh newReader sizeB switchesOf withSwitches unlessBroken clockB clocks.runningB baseB zoneB dstB sourceB statusB bitsB
+unfolding newReaderOf startOf fresh newReader sizeB switchesOf unlessBroken clockB timeB clocks.runningB baseB zoneB dstB sourceB statusB bitsB
 started = let b = newReaderOf (replicate 272 0xaa) in world (switchesOf (b .event .clock) true true true .clock) (b .table)
 
 -- n seconds
 unfoldable pub tick : World → ℕ → Event
-unfolding secondsOf withBase unlessBroken clockB clocks.runningB baseB zoneB dstB sourceB statusB bitsB
+unfolding secondsOf withBase unlessBroken clockB timeB clocks.runningB baseB zoneB dstB sourceB statusB bitsB
 tick v n = secondsOf (v .clock) n
 
 -- a write to the DTCP
 unfoldable pub update : World → List ℕ → Outcome
-unfolding updateOf updateRows firstFailed tableRows writeRows wholeB rows.runningB leftB doneB numberOf clockB clocks.runningB reportB opcodeB filterB counterB baseB zoneB dstB sourceB statusB bitsB soundB headB sizeB startB emptyB fieldsB zerosB slot bytesIn recordIn slots ring held slotB rowB wellFormedB shapeB sizedB recordB updateB faultB recordOf updateAt faultAt sequenceOf matchesB decideOf operandOf judged proposalAt groundsOf flagIf epochB rangeB lowerB unrealisticB secondsApart gradeOf localB clockGrade effectOf settledOf acceptedOf statusAfter alignedAfter accuracyOf tableAfter loggedB updateRecord appendOf steps placeOf slotOf headerAfter bytesOf updateBytes faultBytes responseBytes answered over
+unfolding updateOf updateRows firstFailed tableRows writeRows wholeB rows.runningB leftB doneB numberOf clockB timeB clocks.runningB reportB opcodeB filterB counterB baseB zoneB dstB sourceB statusB bitsB soundB headB sizeB startB emptyB fieldsB zerosB slot bytesIn recordIn slots ring held slotB rowB wellFormedB shapeB sizedB recordB updateB faultB recordOf updateAt faultAt sequenceOf matchesB decideOf operandOf judged proposalAt groundsOf flagIf epochB rangeB lowerB unrealisticB secondsApart gradeOf localB clockGrade effectOf settledOf acceptedOf statusAfter alignedAfter accuracyOf tableAfter loggedB updateRecord appendOf steps placeOf slotOf headerAfter bytesOf updateBytes faultBytes responseBytes answered over
 update v w = updateOf (v .clock) (v .table) w output
 
 -- a write to the RACP
 unfoldable pub access : World → List ℕ → Outcome
-unfolding update accessOf accessRows accessed begunOf abortedOf accessedOf requestOf askedOf abortOf requests.operandOf operandBytes typedB filterAt codeOf codeBytes countBytes withRunning numberIn leftAt leftFrom firstFrom nextMatch matchingFrom matching
+unfolding update accessOf accessRows accessed begunOf abortedOf accessedOf requestOf askedOf abortOf requests.operandOf operandBytes typedB filterAt codeOf codeBytes countBytes numberIn leftAt leftFrom firstFrom nextMatch matchingFrom matching
 access v w = accessOf (v .clock) (v .table) w output
 
 -- a notification of payload size p

@@ -11,6 +11,7 @@ use Rattle.record.specs.declared.kinds.Record.{Record}
 use Rattle.record.specs.declared.kinds.Record.the-variants.{TimeUpdate}
 use Rattle.record.specs.declared.kinds.Reading.the-variants.{Is}
 use Rattle.table.specs.Table.{next, held, soundB}
+use Rattle.clock.specs.Events.{onOff}
 use Rattle.clock.specs.Answers.{numberOf}
 use Rattle.clock.specs.declared.state.Clock.{Clock}
 use Rattle.clock.specs.declared.state.Running.the-variants.{Idle}
@@ -40,17 +41,8 @@ seen u = record { number = numberOf (u .reply .answer); response = response u; c
 abbrev clock : ℕ → ℕ → ℕ → ℕ → Clock
 clock base aligned zone status =
     record {
-      base = base;
-      zone = zone;
-      dst = 0;
-      source = 2;
-      accuracy = 1;
-      status = status;
-      faults = 0;
-      aligned = aligned;
-      dtcp = true;
-      racp = true;
-      log = true;
+      time = record { base = base; zone = zone; dst = 0; source = 2; accuracy = 1; status = status; faults = 0; aligned = aligned };
+      switches = onOff true true true;
       running = Idle;
     }
 
@@ -107,7 +99,7 @@ pub record Ticked : Type 0 where
 
 unfoldable pub ticked : World → ℕ → Ticked
 unfolding tick numberOf
-ticked v n = record { number = numberOf (tick v n .answer); base = tick v n .clock .base }
+ticked v n = record { number = numberOf (tick v n .answer); base = tick v n .clock .time .base }
 
 -- case 6: the stamp is the clock's 50 seconds after case 1, and q the next number then; 50 seconds later record 1 sets 800,000,070
 unfoldable pub noted : World
@@ -141,10 +133,10 @@ pub record Carrying : Type 0 where
 unfoldable pub carrying : Carrying
 unfolding carried tick setBack
 carrying =
-    let x = carried (noted .clock .base) (next (noted .table)) setBack in
-    let base = later setBack 40 .clock .base in
+    let x = carried (noted .clock .time .base) (next (noted .table)) setBack in
+    let base = later setBack 40 .clock .time .base in
     record {
-      stamp = noted .clock .base;
+      stamp = noted .clock .time .base;
       q = next (noted .table);
       held = held (setBack .table);
       carried = x;

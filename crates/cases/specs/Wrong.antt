@@ -14,8 +14,10 @@ use Rattle.filter.specs.declared.request.Filter.{Filter}
 use Rattle.held.specs.Matching.{matching}
 use Rattle.table.specs.Table.{next, held, ageOf}
 use Rattle.log.specs.Writing.{appendOf}
+use Rattle.clock.specs.State.{withRunning}
 use Rattle.clock.specs.declared.answers.Answer.the-variants.{NothingRunning}
 use Rattle.clock.specs.declared.state.Clock.{Clock}
+use Rattle.clock.specs.declared.state.Time.{Time}
 use Rattle.clock.specs.declared.state.Left.{Left}
 use Rattle.clock.specs.declared.state.Left.the-variants.{Nothing, From}
 use Rattle.clock.specs.declared.state.Report.{Report}
@@ -40,7 +42,7 @@ use Rattle.access.specs.declared.request.Request.{Request}
 use Rattle.access.specs.declared.request.Request.the-variants as asked
 use Rattle.asking.specs.Access.{accessRows, accessed, begunOf, abortedOf, responseIn, accessOf}
 use Rattle.transfer.specs.Notify.{Notice, notice, Said, said, unsaid, noticed, notifyRows, headerOf, counterAfter, lastB, segmentOf, leftAfter, closingOf, notifyOf}
-use Rattle.asking.specs.Report.{report, withRunning, bytesIn, leftFrom}
+use Rattle.asking.specs.Report.{report, bytesIn, leftFrom}
 use Rattle.asking.specs.declared.record_access.Accessed.{Accessed}
 use Rattle.promises.specs.Reports.{FinishedReport}
 use Rattle.promises.specs.World.{Notifying}
@@ -65,7 +67,7 @@ pub record Answers (s : Updating) : Type 0 where
   pub answers : (c : Clock) (t w o : List ℕ) → doneB (s c t w o .reply .answer) ≡ doneB (firstFailed (updateRows c t w o))
   -- answered Success: exactly one record was logged, a Time_Update with the received time, the time just before and the next number, and the
   -- clock was set
-  pub logs : (c : Clock) (t w o : List ℕ) → Bytes w → c .faults < 65536 → next t < 65536 → successB (s c t w o) ≡ true
+  pub logs : (c : Clock) (t w o : List ℕ) → Bytes w → c .time .faults < 65536 → next t < 65536 → successB (s c t w o) ≡ true
       → LoggedOne c t w (s c t w o) (updateRecord c (proposalAt w) (next t))
   -- any other answer left clock and table as they were
   pub else : (c : Clock) (t w o : List ℕ) → successB (s c t w o) ≡ false → (s c t w o .reply .clock ≡ c) × (s c t w o .table ≡ t)
@@ -90,11 +92,11 @@ updatingBy decide settle c t w o =
     pick (doneB a) (answered (settle c t d .clock) (settle c t d .table) (responseBytes (at w 0) d) o) (refused a c t o)
 
 -- `decideOf` with the grounds open
-unfoldable pub operandBy : (Clock → Proposal → Bool → ℕ) → Clock → List ℕ → Bool → Decision
+unfoldable pub operandBy : (Time → Proposal → Bool → ℕ) → Clock → List ℕ → Bool → Decision
 operandBy grounds c w forced =
-    pick (eqb (length w) updateWriteBytes) (judged (proposalAt w) (grounds c (proposalAt w) forced)) WrongLength
+    pick (eqb (length w) updateWriteBytes) (judged (proposalAt w) (grounds (c .time) (proposalAt w) forced)) WrongLength
 
-unfoldable pub decidingBy : (Clock → Proposal → Bool → ℕ) → Clock → List ℕ → Decision
+unfoldable pub decidingBy : (Time → Proposal → Bool → ℕ) → Clock → List ℕ → Decision
 decidingBy grounds c w =
     pick (eqb (at w 0) proposeOpcode)
     (operandBy grounds c w false)
@@ -126,13 +128,13 @@ abbrev pub logsCorrected : Updating
 logsCorrected = updatingBy decideOf settledLate
 
 -- "Rejecting with the first ground only."
-abbrev pub firstGround : Clock → Proposal → Bool → ℕ
-firstGround c p forced =
+abbrev pub firstGround : Time → Proposal → Bool → ℕ
+firstGround t p forced =
     pick (epochB p)
     wrongEpoch
     (pick (rangeB p)
     outOfRange
-    (pick (both (not forced) (lowerB c p)) lowerQuality (flagIf (both (not forced) (unrealisticB c p)) unrealistic)))
+    (pick (both (not forced) (lowerB t p)) lowerQuality (flagIf (both (not forced) (unrealisticB t p)) unrealistic)))
 
 abbrev pub namesFirst : Updating
 namesFirst = updatingBy (decidingBy firstGround) settledOf
@@ -141,12 +143,12 @@ namesFirst = updatingBy (decidingBy firstGround) settledOf
 abbrev pub apart32 : ℕ → ℕ → ℕ
 apart32 a b = (b + 4294967296 - a) % 4294967296
 
-abbrev pub unsignedGrounds : Clock → Proposal → Bool → ℕ
-unsignedGrounds c p forced =
+abbrev pub unsignedGrounds : Time → Proposal → Bool → ℕ
+unsignedGrounds t p forced =
     flagIf (epochB p) wrongEpoch
     + flagIf (rangeB p) outOfRange
-    + flagIf (both (not forced) (lowerB c p)) lowerQuality
-    + flagIf (both (not forced) (both (eqb (alignedBit (c .status)) 1) (ltb realisticSeconds (apart32 (c .base) (p .base))))) unrealistic
+    + flagIf (both (not forced) (lowerB t p)) lowerQuality
+    + flagIf (both (not forced) (both (eqb (alignedBit (t .status)) 1) (ltb realisticSeconds (apart32 (t .base) (p .base))))) unrealistic
 
 abbrev pub subtractsUnsigned : Updating
 subtractsUnsigned = updatingBy (decidingBy unsignedGrounds) settledOf

@@ -112,14 +112,14 @@ module _ (v w : World) (l : List Record) (n : ℕ) (g : Good v) (d : Went v w l 
   is-fault stamp h k = rw (carry-is stamp, h) (over-fault l (pos stamp) k)
 
   is-sum : leb (length l) (length (held (w .table))) ≡ true → noFaultB l ≡ true
-      → carryOf (v .clock .base) (next (v .table)) (w .table) ≡ To (pos (v .clock .base + news l) -ℤ pos (olds l))
+      → carryOf (v .clock .time .base) (next (v .table)) (w .table) ≡ To (pos (v .clock .time .base + news l) -ℤ pos (olds l))
   is-sum h k =
       let r = clock-reads (v .clock) (g .clock) in
       let x : 0 + olds l ≡ olds l = omega arith in
-      rw (carry-is (v .clock .base), h)
-      (ap (λ (z : ℤ). carriedOver z l) (sym (+ℤ-idr (pos (v .clock .base))))
-      ∙ over-sums l (v .clock .base) 0 k (omega (arith, d .news-small)) (omega (arith, d .olds-small))
-      ∙ ap (λ (m : ℕ). To (pos (v .clock .base + news l) -ℤ pos m)) x)
+      rw (carry-is (v .clock .time .base), h)
+      (ap (λ (z : ℤ). carriedOver z l) (sym (+ℤ-idr (pos (v .clock .time .base))))
+      ∙ over-sums l (v .clock .time .base) 0 k (omega (arith, d .news-small)) (omega (arith, d .olds-small))
+      ∙ ap (λ (m : ℕ). To (pos (v .clock .time .base + news l) -ℤ pos m)) x)
 
 to-is : (x z : ℤ) → To x ≡ To z → x ≡ z
 to-is x z h = cc
@@ -130,8 +130,8 @@ carries v after g few =
     let w = runOf v after in
     let l = loggedOf v after in
     let d = went-run after v g in
-    let not-held = is-not-held v w l (ranOf v after) g d few (v .clock .base) in
-    let fault = is-fault v w l (ranOf v after) g d few (v .clock .base) in
+    let not-held = is-not-held v w l (ranOf v after) g d few (v .clock .time .base) in
+    let fault = is-fault v w l (ranOf v after) g d few (v .clock .time .base) in
     let sum = is-sum v w l (ranOf v after) g d few in
     record {
       exactly = by-tests (allHeldB v after) (noFaultB l) (λ h. simp (not-held h, h)) (λ h k. simp (fault h k, h, k)) (λ h k. simp (sum h k, h, k));
@@ -139,7 +139,7 @@ carries v after g few =
           by-tests (allHeldB v after) (noFaultB l)
           (λ h. let y : _≡_ {A = ℕ} 0 1 = cc (not-held h) in absurd (omega arith))
           (λ h k. let y : _≡_ {A = ℕ} 0 1 = cc (fault h k) in absurd (omega arith))
-          (λ h k. rw (← to-is _ z (sym (sum h k) ∙ e)) (diff-is (w .clock .base) (v .clock .base + news l) (olds l) (ranOf v after) (d .law k)));
+          (λ h k. rw (← to-is _ z (sym (sum h k) ∙ e)) (diff-is (w .clock .time .base) (v .clock .time .base + news l) (olds l) (ranOf v after) (d .law k)));
       not-held = not-held;
       fault = fault;
     }

@@ -18,7 +18,7 @@ use Rattle.log.proofs.AppendLaws.{next-appended, capacity-appended}
 use Rattle.table.proofs.HeadLaws.{sound-head}
 use Rattle.log.proofs.HistoryLaws.{newest-appended}
 use Rattle.clock.specs.Answers.{numberOf}
-use Rattle.clock.specs.Events.{withBase, withSwitches, disconnected}
+use Rattle.clock.specs.Events.{withBase, disconnected}
 use Rattle.clock.specs.declared.events.Event.{Event}
 use Rattle.clock.specs.declared.state.Clock.{Clock}
 use Rattle.clock.proofs.EventLaws.{Seconds, refuses-2, refuses-7, rises, Changed, changes, seconds-is, switches-is, disconnect-is}
@@ -32,7 +32,6 @@ use Rattle.service.specs.Promises.{World, world, successB, Good}
 use Rattle.service.specs.Update.{updateOf}
 use Rattle.service.proofs.PromiseLaws.{logged, refused-unchanged}
 use Rattle.service.proofs.ReachLaws.{fault-loggable}
-use Rattle.asking.specs.Report.{withRunning}
 use Rattle.promises.specs.World.{Call, seconds, switches, disconnect, fault, timeUpdate, recordAccess, notify, left, stepBy, stepOf, runOf}
 use Rattle.carry.specs.Carry.{noFaultB}
 use Rattle.stamps.specs.Stamps.{ranIn, ranOf, loggedIn, loggedOf}
@@ -65,7 +64,7 @@ pub record Went (v w : World) (l : List Record) (n : ℕ) : Type 0 where
   pub number : next (w .table) ≡ (next (v .table) + length l) % 65536
   pub news-small : news l ≤ 4294967296 * length l
   pub olds-small : olds l ≤ 4294967296 * length l
-  pub law : noFaultB l ≡ true → w .clock .base + olds l ≡ v .clock .base + news l + n
+  pub law : noFaultB l ≡ true → w .clock .time .base + olds l ≡ v .clock .time .base + news l + n
 
 news-append : (a b : List Record) → news (a ++ b) ≡ news a + news b
 unfolding news
@@ -87,7 +86,7 @@ number-same : (a b : ℕ) → a ≡ b → a < 65536 → a ≡ (b + 0) % 65536
 number-same a b e h = omega arith
 
 -- nothing is logged
-stay : (v w : World) (n : ℕ) → Good w → w .table ≡ v .table → w .clock .base ≡ v .clock .base + n → Went v w [] n
+stay : (v w : World) (n : ℕ) → Good w → w .table ≡ v .table → w .clock .time .base ≡ v .clock .time .base + n → Went v w [] n
 unfolding news olds
 stay v w n g e b =
     record {
@@ -106,7 +105,7 @@ fits-small (TimeFault f) h = (omega arith, omega arith)
 
 -- one record is logged
 log-one : (v : World) (c : Clock) (r : Record) → Good v → Good (world c (appendOf (v .table) r)) → Fits r
-    → (noFaultB (r ∷ []) ≡ true → c .base + oldOf r ≡ v .clock .base + newOf r) → Went v (world c (appendOf (v .table) r)) (r ∷ []) 0
+    → (noFaultB (r ∷ []) ≡ true → c .time .base + oldOf r ≡ v .clock .time .base + newOf r) → Went v (world c (appendOf (v .table) r)) (r ∷ []) 0
 unfolding news olds
 log-one v c r g good f moved =
     let d = sound-head (v .table) (g .sound) in
@@ -154,13 +153,12 @@ seconds-went v n ran (refuses-2 h) g done not = let z = not refl in stay v _ ran
 seconds-went v n ran (refuses-7 h l) g done not = let z = not refl in stay v _ ran g refl (omega arith)
 seconds-went v n ran (rises h l) g done not = let z = done refl in stay v _ ran g refl (omega arith)
 
-changed-went : (v : World) {after : Clock} {e : Event} → Changed (v .clock) after e → after .base ≡ v .clock .base
+changed-went : (v : World) {after : Clock} {e : Event} → Changed (v .clock) after e → after .time .base ≡ v .clock .time .base
     → Good (world (e .clock) (v .table)) → Went v (world (e .clock) (v .table)) [] 0
 changed-went v (refuses-2 h) b g = stay v _ 0 g refl (omega arith)
 changed-went v (changes h) b g = stay v _ 0 g refl (omega arith)
 
 turned-went : {v w : World} → Turned v w → Good w → Went v w [] 0
-unfolding withRunning
 turned-went {v} same g = stay v v 0 g refl (omega arith)
 turned-went {v} (turns r ok l) g = stay v _ 0 g refl (omega arith)
 
@@ -203,7 +201,7 @@ update-went v w o hw g good =
         (record-fits (v .clock) (proposalAt w) (next (v .table)) (g .clock) (g .faults) (proposal-sized w hw) (g .next)) (λ n. omega arith))
 
 pub went-step : (v : World) (k : Call) → Good v → Went v (stepOf v k) (loggedIn v k) (ranIn v k)
-unfolding stepBy loggedIn ranIn withSwitches disconnected
+unfolding stepBy loggedIn ranIn disconnected
 went-step v (seconds n) g =
     seconds-went v n (ranIn v (seconds n)) (seconds-is (v .clock) n) (call-good v (seconds n) g) (λ h. simp h) (λ h. simp h)
 went-step v (switches a b d) g = changed-went v (switches-is (v .clock) a b d) refl (call-good v (switches a b d) g)

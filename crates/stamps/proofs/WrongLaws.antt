@@ -143,12 +143,12 @@ newest-none l = let h : length l ≤ length l - 0 = omega arith in drop-of-lengt
 
 -- where m comes out as 0 a stamp is carried, whatever was logged
 carries-none : (later : ℕ → ℕ → ℕ) (v w : World) → Good v → Good w → later (next (w .table)) (next (v .table)) ≡ 0
-    → eqb (numberOf (carryBy later newest carriedOver (v .clock .base) (next (v .table)) (w .table))) 0 ≡ true
+    → eqb (numberOf (carryBy later newest carriedOver (v .clock .time .base) (next (v .table)) (w .table))) 0 ≡ true
 unfolding carryBy carriedOver numberOf
 carries-none later v w g k e =
     let r = clock-reads (v .clock) (g .clock) in
     rw (k .sound, e, le-leb 0 (length (held (w .table))) (omega arith), newest-none (held (w .table)))
-    (rw (lt-ltb (v .clock .base) 9223372036854775808 (omega arith)) refl)
+    (rw (lt-ltb (v .clock .time .base) 9223372036854775808 (omega arith)) refl)
 
 -- but with a fault among the records it must not be
 refuses-fault : (carry : Carrying) (v : World) (after : List Call) → Carries carry v after → noFaultB (loggedOf v after) ≡ false

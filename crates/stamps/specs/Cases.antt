@@ -17,9 +17,9 @@ use Rattle.log.specs.Writing.{fresh, placeOf, slotOf, headerAfter, appendOf}
 use Rattle.held.specs.Matching.{firstFrom, nextMatch, matchingFrom, matching}
 use Rattle.clock.specs.Answers.{numberOf}
 use Rattle.clock.specs.State.{newReader}
-use Rattle.clock.specs.Rules.{opcodeB, filterB, counterB, reportB, clockB}
+use Rattle.clock.specs.Rules.{opcodeB, filterB, counterB, reportB, clockB, timeB}
 use Rattle.clock.specs.Rules as clocks
-use Rattle.clock.specs.Events.{unlessBroken, withBase, withSwitches, secondsOf, switchesOf}
+use Rattle.clock.specs.Events.{unlessBroken, withBase, secondsOf, switchesOf}
 use Rattle.update.specs.Accept.{statusAfter, alignedAfter, accuracyOf, acceptedOf, loggedB, updateRecord}
 use Rattle.update.specs.Decide.{judged, operandOf, decideOf}
 use Rattle.update.specs.Decide as decide
@@ -37,7 +37,7 @@ use Rattle.access.specs.Codes.{codeOf}
 use Rattle.access.specs.Request.{operandBytes, typedB, filterAt, askedOf, abortOf, requestOf}
 use Rattle.access.specs.Request as request
 use Rattle.access.specs.Response.{codeBytes, countBytes}
-use Rattle.asking.specs.Report.{withRunning, numberIn, leftAt, leftFrom}
+use Rattle.asking.specs.Report.{numberIn, leftAt, leftFrom}
 use Rattle.asking.specs.Report as reports
 use Rattle.asking.specs.Access.{accessRows, accessed, begunOf, abortedOf, accessedOf, accessOf}
 use Rattle.transfer.specs.Notify.{roomB, notifyRows, headerOf, segmentOf, leftAfter, closingOf, saidOf, noticed, runningNotice, notifyOf}
@@ -67,17 +67,17 @@ abbrev pub output : List ℕ
 output = replicate 244 0
 
 unfoldable pub resultOf : List ℕ → List Call → List Call → Result
-unfolding newReader fresh accessRows accessed begunOf abortedOf accessedOf accessOf operandBytes typedB filterAt request.operandOf askedOf abortOf requestOf codeOf codeBytes countBytes firstFailed leftB wholeB tableRows writeRows rows.runningB clocks.runningB doneB answered numberOf opcodeB filterB counterB reportB clockB baseB zoneB dstB sourceB statusB bitsB soundB headB sizeB startB emptyB fieldsB zerosB slot bytesIn recordIn slots ring held slotB rowB wellFormedB shapeB sizedB recordB updateB faultB recordOf updateAt faultAt sequenceOf matchesB firstFrom nextMatch matchingFrom matching withRunning numberIn reports.bytesIn leftAt leftFrom bytesOf updateBytes faultBytes over roomB notifyRows headerOf segmentOf leftAfter closingOf saidOf noticed runningNotice notifyOf unlessBroken withBase withSwitches secondsOf switchesOf faultOf faultedOf countAfter faultRecord endingOf appendOf steps placeOf slotOf headerAfter updateRows tableAfter settledOf effectOf updateOf statusAfter alignedAfter accuracyOf acceptedOf loggedB updateRecord judged decide.operandOf decideOf clockGrade localB gradeOf epochB rangeB lowerB secondsApart unrealisticB flagIf groundsOf proposalAt responseBytes laterOf movedBy carriedOver carriedFrom carryOf stepBy runOf ranIn ranOf loggedIn loggedOf noFaultB
+unfolding newReader fresh accessRows accessed begunOf abortedOf accessedOf accessOf operandBytes typedB filterAt request.operandOf askedOf abortOf requestOf codeOf codeBytes countBytes firstFailed leftB wholeB tableRows writeRows rows.runningB clocks.runningB doneB answered numberOf opcodeB filterB counterB reportB clockB timeB baseB zoneB dstB sourceB statusB bitsB soundB headB sizeB startB emptyB fieldsB zerosB slot bytesIn recordIn slots ring held slotB rowB wellFormedB shapeB sizedB recordB updateB faultB recordOf updateAt faultAt sequenceOf matchesB firstFrom nextMatch matchingFrom matching numberIn reports.bytesIn leftAt leftFrom bytesOf updateBytes faultBytes over roomB notifyRows headerOf segmentOf leftAfter closingOf saidOf noticed runningNotice notifyOf unlessBroken withBase secondsOf switchesOf faultOf faultedOf countAfter faultRecord endingOf appendOf steps placeOf slotOf headerAfter updateRows tableAfter settledOf effectOf updateOf statusAfter alignedAfter accuracyOf acceptedOf loggedB updateRecord judged decide.operandOf decideOf clockGrade localB gradeOf epochB rangeB lowerB secondsApart unrealisticB flagIf groundsOf proposalAt responseBytes laterOf movedBy carriedOver carriedFrom carryOf stepBy runOf ranIn ranOf loggedIn loggedOf noFaultB
 resultOf t before after =
     let v = runOf (started t) before in
     record {
-      stamp = v .clock .base;
+      stamp = v .clock .time .base;
       number = next (v .table);
       later = length (loggedOf v after);
       allHeld = allHeldB v after;
       noFault = noFaultB (loggedOf v after);
       carried = carriedAfter carryOf v after;
-      clock = runOf v after .clock .base;
+      clock = runOf v after .clock .time .base;
       ran = ranOf v after;
     }
 

@@ -61,7 +61,7 @@ Carrying = ℕ → ℕ → List ℕ → Carried
 -- In the world v "note the clock's time as a stamp with the log's next number", let the calls `after` come, "copy clock and log": what
 -- carrying the stamp over the copied log gives.
 abbrev pub carriedAfter : Carrying → World → List Call → Carried
-carriedAfter carry v after = carry (v .clock .base) (next (v .table)) (runOf v after .table)
+carriedAfter carry v after = carry (v .clock .time .base) (next (v .table)) (runOf v after .table)
 
 -- are all records that the calls logged still held?
 abbrev pub allHeldB : World → List Call → Bool
@@ -82,7 +82,7 @@ pub record Carries (carry : Carrying) (v : World) (after : List Call) : Type 0 w
   -- "Carrying the stamp answers exactly when all later records are held and no time fault is among them"
   pub exactly : eqb (numberOf (carriedAfter carry v after)) 0 ≡ both (allHeldB v after) (noFaultB (loggedOf v after))
   -- "and clock minus carried stamp is then the seconds that ran, however often the time was set"
-  pub difference : (z : ℤ) → carriedAfter carry v after ≡ To z → pos (runOf v after .clock .base) -ℤ z ≡ pos (ranOf v after)
+  pub difference : (z : ℤ) → carriedAfter carry v after ≡ To z → pos (runOf v after .clock .time .base) -ℤ z ≡ pos (ranOf v after)
   -- "If m exceeds H, 12", first; "a Time_Fault gives 13"
   pub not-held : allHeldB v after ≡ false → carriedAfter carry v after ≡ NotHeld
   pub fault : allHeldB v after ≡ true → noFaultB (loggedOf v after) ≡ false → carriedAfter carry v after ≡ FaultAmong
