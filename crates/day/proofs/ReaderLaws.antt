@@ -32,11 +32,11 @@ module _ (r : Reader) (place : ℕ) where
       neither false = refl
 
   pub noted : (q : ℕ) → place < 8 → soundB (r .table) ≡ true → q ≡ next (r .table)
-      → reader (r .clock) (r .table) (set (r .notes) place (record { seen = true; stamp = r .clock .base; q = q })) ≡ readOf r place
+      → reader (r .clock) (r .table) (set (r .notes) place (record { seen = true; stamp = r .clock .time .base; q = q })) ≡ readOf r place
   unfolding readOf
   noted q h s e =
       rw (lt-ltb place 8 h, s)
-      (ap (λ (n : ℕ). reader (r .clock) (r .table) (set (r .notes) place (record { seen = true; stamp = r .clock .base; q = n }))) e)
+      (ap (λ (n : ℕ). reader (r .clock) (r .table) (set (r .notes) place (record { seen = true; stamp = r .clock .time .base; q = n }))) e)
 
 -- one thing more of the day, and the day's end
 pub played-next : (v : Ramp) (day : List Happening) (i : ℕ) (d : Happening) → i < length day

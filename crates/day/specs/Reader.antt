@@ -53,7 +53,7 @@ failedOf r = left r (faultOf (r .clock) (r .table) output)
 
 -- "a stamp (unsigned 32 bits), its next sequence number q": the clock's Base_Time and the log's next number, at the tag's place
 abbrev pub noteOf : Reader → Note
-noteOf r = record { seen = true; stamp = r .clock .base; q = next (r .table) }
+noteOf r = record { seen = true; stamp = r .clock .time .base; q = next (r .table) }
 
 unfoldable pub readOf : Reader → ℕ → Reader
 readOf r place =

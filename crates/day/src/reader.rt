@@ -132,7 +132,7 @@ fn read(r: Reader, place: u8) -> Reader
     let q = next_number(&table);
     notes[place as usize] = Note {
         seen: true,
-        stamp: clock.base,
+        stamp: clock.time.base,
         q,
     };
     Reader {

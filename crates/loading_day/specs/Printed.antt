@@ -14,8 +14,8 @@ use Rattle.table.specs.Table.{sizeB, startB, emptyB, fieldsB, headB, slot, byte
 use Rattle.log.specs.Writing.{fresh, startOf, placeOf, slotOf, headerAfter, appendOf}
 use Rattle.held.specs.Matching.{firstFrom, nextMatch, matchingFrom, matching}
 use Rattle.clock.specs.Answers.{numberOf}
-use Rattle.clock.specs.Events.{unlessBroken, withBase, withSwitches, disconnected, secondsOf, switchesOf, disconnectOf}
-use Rattle.clock.specs.Rules.{opcodeB, filterB, counterB, reportB, clockB}
+use Rattle.clock.specs.Events.{unlessBroken, withBase, disconnected, secondsOf, switchesOf, disconnectOf}
+use Rattle.clock.specs.Rules.{opcodeB, filterB, counterB, reportB, clockB, timeB}
 use Rattle.clock.specs.Rules as clocks
 use Rattle.clock.specs.State.{newReader}
 use Rattle.update.specs.Accept.{statusAfter, alignedAfter, accuracyOf, acceptedOf, loggedB, updateRecord}
@@ -34,7 +34,7 @@ use Rattle.access.specs.Codes.{codeOf}
 use Rattle.access.specs.Request.{operandBytes, typedB, filterAt, askedOf, abortOf, requestOf}
 use Rattle.access.specs.Request as requests
 use Rattle.access.specs.Response.{codeBytes, countBytes}
-use Rattle.asking.specs.Report.{withRunning, numberIn, leftAt, leftFrom}
+use Rattle.asking.specs.Report.{numberIn, leftAt, leftFrom}
 use Rattle.asking.specs.Report as reports
 use Rattle.asking.specs.Access.{accessRows, accessed, begunOf, abortedOf, accessedOf, accessOf}
 use Rattle.transfer.specs.Notify.{roomB, notifyRows, headerOf, segmentOf, leftAfter, closingOf, saidOf, noticed, runningNotice, notifyOf}
@@ -54,12 +54,12 @@ use Rattle.loading_day.specs.Page.{linesOf, eveningOf, sheetOf}
 
 -- the ramp in the evening
 unfoldable pub theRamp : Ramp
-unfolding playedOf theDay openedOf steppedOf livedOf startedOf proposalBytes withClock setOf failedOf readers.readOf newReaderOf startOf fresh newReader secondsOf withBase switchesOf withSwitches disconnectOf disconnected unlessBroken faultOf faultedOf faultRecord countAfter endingOf updateOf updateRows firstFailed tableRows writeRows wholeB rows.runningB leftB doneB numberOf clockB clocks.runningB reportB opcodeB filterB counterB baseB zoneB dstB sourceB statusB bitsB soundB headB sizeB startB emptyB fieldsB zerosB slot bytesIn recordIn slots ring held slotB rowB wellFormedB shapeB sizedB recordB updateB faultB recordOf updateAt faultAt sequenceOf matchesB decideOf operandOf judged proposalAt groundsOf flagIf epochB rangeB lowerB unrealisticB secondsApart gradeOf localB clockGrade effectOf settledOf acceptedOf statusAfter alignedAfter accuracyOf tableAfter loggedB updateRecord appendOf steps placeOf slotOf headerAfter bytesOf updateBytes faultBytes responseBytes answered over
+unfolding playedOf theDay openedOf steppedOf livedOf startedOf proposalBytes withClock setOf failedOf readers.readOf newReaderOf startOf fresh newReader secondsOf withBase switchesOf disconnectOf disconnected unlessBroken faultOf faultedOf faultRecord countAfter endingOf updateOf updateRows firstFailed tableRows writeRows wholeB rows.runningB leftB doneB numberOf clockB timeB clocks.runningB reportB opcodeB filterB counterB baseB zoneB dstB sourceB statusB bitsB soundB headB sizeB startB emptyB fieldsB zerosB slot bytesIn recordIn slots ring held slotB rowB wellFormedB shapeB sizedB recordB updateB faultB recordOf updateAt faultAt sequenceOf matchesB decideOf operandOf judged proposalAt groundsOf flagIf epochB rangeB lowerB unrealisticB secondsApart gradeOf localB clockGrade effectOf settledOf acceptedOf statusAfter alignedAfter accuracyOf tableAfter loggedB updateRecord appendOf steps placeOf slotOf headerAfter bytesOf updateBytes faultBytes responseBytes answered over
 theRamp = playedOf openedOf theDay
 
 -- the text of its sheet
 unfoldable pub theSheet : List ℕ
-unfolding theRamp sheetOf eveningOf linesOf theTags fetchedOf finishedOf reportOf heardAll heardOf keptIn loggedIn sightOf evenings.askedOf accessOf accessRows accessed begunOf abortedOf accessedOf requestOf askedOf abortOf requests.operandOf operandBytes typedB filterAt codeOf codeBytes countBytes withRunning numberIn leftAt leftFrom firstFrom nextMatch matchingFrom matching notifyOf notifyRows roomB headerOf segmentOf leftAfter closingOf saidOf noticed runningNotice reports.bytesIn emptyJoining rangesB filledB placedB followsB standing takesB ground takenOf joinOf readJoinedOf readOf carryOf carriedFrom carriedOver movedBy laterOf carries.numberOf tagLine pairText apartText gap shownText carriedOf outcomeOf signedOf notedOf timeOfDay twoDigits decimal digitsUpTo
+unfolding theRamp sheetOf eveningOf linesOf theTags fetchedOf finishedOf reportOf heardAll heardOf keptIn loggedIn sightOf evenings.askedOf accessOf accessRows accessed begunOf abortedOf accessedOf requestOf askedOf abortOf requests.operandOf operandBytes typedB filterAt codeOf codeBytes countBytes numberIn leftAt leftFrom firstFrom nextMatch matchingFrom matching notifyOf notifyRows roomB headerOf segmentOf leftAfter closingOf saidOf noticed runningNotice reports.bytesIn emptyJoining rangesB filledB placedB followsB standing takesB ground takenOf joinOf readJoinedOf readOf carryOf carriedFrom carriedOver movedBy laterOf carries.numberOf tagLine pairText apartText gap shownText carriedOf outcomeOf signedOf notedOf timeOfDay twoDigits decimal digitsUpTo
 theSheet = eveningOf theTags theRamp
 
 -- a text's lines in a row
