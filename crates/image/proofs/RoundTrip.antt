@@ -76,12 +76,12 @@ switches-back false false false = record { dtcp = refl; racp = refl; log = refl 
 clock-back : (c : Clock) → Fits c → clockB c ≡ true → clockIn (imageOf c) ≡ c
 unfolding clockIn imageOf
 clock-back c h ok =
-    let w = switches-back (c .dtcp) (c .racp) (c .log) in
+    let w = switches-back (c .switches .dtcp) (c .switches .racp) (c .switches .log) in
     rw (
-      four (c .base) (h .base),
-      two (c .status) (h .status),
-      two (c .faults) (h .faults),
-      four (c .aligned) (h .aligned),
+      four (c .time .base) (h .base),
+      two (c .time .status) (h .status),
+      two (c .time .faults) (h .faults),
+      four (c .time .aligned) (h .aligned),
       w .dtcp,
       w .racp,
       w .log,

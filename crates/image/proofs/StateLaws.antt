@@ -23,12 +23,12 @@ use Rattle.image.specs.declared.state.Unsent.{Unsent}
 use Rattle.image.specs.declared.state.StateRead.the-variants.{Is, Refused}
 use Rattle.octets.proofs.SameLaws.{same-reads}
 
-pub image-laid : (c : Clock) {f : Fields} {w : ℕ} → f ≡ fieldsOf (c .running) → w ≡ switchesOf (c .dtcp) (c .racp) (c .log)
-    → bytes4 (c .base)
-    ++ (c .zone ∷ c .dst ∷ c .source ∷ c .accuracy
-    ∷ (bytes2 (c .status)
-    ++ (bytes2 (c .faults)
-    ++ (bytes4 (c .aligned) ++ (w ∷ (fieldBytes f ++ (0 ∷ 0 ∷ 0 ∷ 0 ∷ [])))))))
+pub image-laid : (c : Clock) {f : Fields} {w : ℕ} → f ≡ fieldsOf (c .running) → w ≡ switchesOf (c .switches .dtcp) (c .switches .racp) (c .switches .log)
+    → bytes4 (c .time .base)
+    ++ (c .time .zone ∷ c .time .dst ∷ c .time .source ∷ c .time .accuracy
+    ∷ (bytes2 (c .time .status)
+    ++ (bytes2 (c .time .faults)
+    ++ (bytes4 (c .time .aligned) ++ (w ∷ (fieldBytes f ++ (0 ∷ 0 ∷ 0 ∷ 0 ∷ [])))))))
     ≡ imageOf c
 unfolding imageOf
 image-laid c e d = rw (e, d)

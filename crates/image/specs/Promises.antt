@@ -44,10 +44,10 @@ RunningFits Idle = Unit {0}
 RunningFits (Reporting r) = FilterFits (r .filter) × LeftFits (r .left)
 
 pub record Fits (c : Clock) : Type 0 where
-  pub base : c .base < 4294967296
-  pub status : c .status < 65536
-  pub faults : c .faults < 65536
-  pub aligned : c .aligned < 4294967296
+  pub base : c .time .base < 4294967296
+  pub status : c .time .status < 65536
+  pub faults : c .time .faults < 65536
+  pub aligned : c .time .aligned < 4294967296
   pub running : RunningFits (c .running)
 
 -- "One encoding per state": bytes that are an image are the image of the clock that they stand for, and of no other clock that obeys its

@@ -72,12 +72,12 @@ fieldBytes f =
 -- 17-27 the running report, 28-31 zero
 unfoldable pub imageOf : Clock → List ℕ
 imageOf c =
-    bytes4 (c .base)
-    ++ (c .zone ∷ c .dst ∷ c .source ∷ c .accuracy
-    ∷ (bytes2 (c .status)
-    ++ (bytes2 (c .faults)
-    ++ (bytes4 (c .aligned)
-    ++ (switchesOf (c .dtcp) (c .racp) (c .log)
+    bytes4 (c .time .base)
+    ++ (c .time .zone ∷ c .time .dst ∷ c .time .source ∷ c .time .accuracy
+    ∷ (bytes2 (c .time .status)
+    ++ (bytes2 (c .time .faults)
+    ++ (bytes4 (c .time .aligned)
+    ++ (switchesOf (c .switches .dtcp) (c .switches .racp) (c .switches .log)
     ∷ (fieldBytes (fieldsOf (c .running))
     ++ (0 ∷ 0 ∷ 0 ∷ 0 ∷ [])))))))
 
@@ -107,17 +107,21 @@ runningIn s =
 unfoldable pub clockIn : List ℕ → Clock
 clockIn s =
     record {
-      base = le32 s 0;
-      zone = at s 4;
-      dst = at s 5;
-      source = at s 6;
-      accuracy = at s 7;
-      status = le16 s 8;
-      faults = le16 s 10;
-      aligned = le32 s 12;
-      dtcp = eqb (at s 16 % 2) 1;
-      racp = eqb (at s 16 / 2 % 2) 1;
-      log = eqb (at s 16 / 4 % 2) 1;
+      time = record {
+        base = le32 s 0;
+        zone = at s 4;
+        dst = at s 5;
+        source = at s 6;
+        accuracy = at s 7;
+        status = le16 s 8;
+        faults = le16 s 10;
+        aligned = le32 s 12;
+      };
+      switches = record {
+        dtcp = eqb (at s 16 % 2) 1;
+        racp = eqb (at s 16 / 2 % 2) 1;
+        log = eqb (at s 16 / 4 % 2) 1;
+      };
       running = runningIn s;
     }
 

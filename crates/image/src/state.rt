@@ -3,6 +3,8 @@ use clock::state::Clock;
 use clock::state::Left;
 use clock::state::Report;
 use clock::state::Running;
+use clock::state::Switches;
+use clock::state::Time;
 use filter::request::Filter;
 use octets::numbers::get16;
 use octets::numbers::get32;
@@ -128,23 +130,23 @@ pub fn image_of(c: Clock) -> [u8; 32]
     let b = f.bounds;
     let u = f.unsent;
     [
-        (c.base % 256) as u8,
-        (c.base / 256 % 256) as u8,
-        (c.base / 65536 % 256) as u8,
-        (c.base / 16777216 % 256) as u8,
-        c.zone,
-        c.dst,
-        c.source,
-        c.accuracy,
-        (c.status % 256) as u8,
-        (c.status / 256 % 256) as u8,
-        (c.faults % 256) as u8,
-        (c.faults / 256 % 256) as u8,
-        (c.aligned % 256) as u8,
-        (c.aligned / 256 % 256) as u8,
-        (c.aligned / 65536 % 256) as u8,
-        (c.aligned / 16777216 % 256) as u8,
-        switches_of(c.dtcp, c.racp, c.log),
+        (c.time.base % 256) as u8,
+        (c.time.base / 256 % 256) as u8,
+        (c.time.base / 65536 % 256) as u8,
+        (c.time.base / 16777216 % 256) as u8,
+        c.time.zone,
+        c.time.dst,
+        c.time.source,
+        c.time.accuracy,
+        (c.time.status % 256) as u8,
+        (c.time.status / 256 % 256) as u8,
+        (c.time.faults % 256) as u8,
+        (c.time.faults / 256 % 256) as u8,
+        (c.time.aligned % 256) as u8,
+        (c.time.aligned / 256 % 256) as u8,
+        (c.time.aligned / 65536 % 256) as u8,
+        (c.time.aligned / 16777216 % 256) as u8,
+        switches_of(c.switches.dtcp, c.switches.racp, c.switches.log),
         f.opcode,
         b.operator,
         (b.minimum % 256) as u8,
@@ -206,8 +208,8 @@ fn clock_in(s: &[u8]) -> Clock
     requires { ⌜ length (now s) ≡ 32 ⌝ }
     ensures { λ r. ⌜ r ≡ clockIn (now (s .entry)) ⌝ }
 {
-    let switches = s[16];
-    Clock {
+    let bits = s[16];
+    let time = Time {
         base: get32(s, 0),
         zone: s[4],
         dst: s[5],
@@ -216,9 +218,15 @@ fn clock_in(s: &[u8]) -> Clock
         status: get16(s, 8),
         faults: get16(s, 10),
         aligned: get32(s, 12),
-        dtcp: switches % 2 == 1,
-        racp: switches / 2 % 2 == 1,
-        log: switches / 4 % 2 == 1,
+    };
+    let switches = Switches {
+        dtcp: bits % 2 == 1,
+        racp: bits / 2 % 2 == 1,
+        log: bits / 4 % 2 == 1,
+    };
+    Clock {
+        time,
+        switches,
         running: running_in(s),
     }
 }

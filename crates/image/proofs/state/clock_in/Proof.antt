@@ -5,23 +5,23 @@ use borrow.Author.Needs.{needs}
 use Rattle.image.proofs.state.clock_in.Statement.{statement}
 use Rattle.image.proofs.state.clock_in.Tie as tie
 
-shared-slice-read-switches : tie.Need-shared-slice-read-switches
-shared-slice-read-switches c = search needs
+shared-slice-read-bits : tie.Need-shared-slice-read-bits
+shared-slice-read-bits c = search needs
 
 get32-requires : tie.Need-get32-requires
 get32-requires c κs = search needs
 
-shared-slice-read-t4 : tie.Need-shared-slice-read-t4
-shared-slice-read-t4 c = search needs
-
-shared-slice-read-t8 : tie.Need-shared-slice-read-t8
-shared-slice-read-t8 c = search needs
+shared-slice-read-t6 : tie.Need-shared-slice-read-t6
+shared-slice-read-t6 c = search needs
 
 shared-slice-read-t10 : tie.Need-shared-slice-read-t10
 shared-slice-read-t10 c = search needs
 
 shared-slice-read-t12 : tie.Need-shared-slice-read-t12
 shared-slice-read-t12 c = search needs
+
+shared-slice-read-t14 : tie.Need-shared-slice-read-t14
+shared-slice-read-t14 c = search needs
 
 get16-requires : tie.Need-get16-requires
 get16-requires c κs = search needs
@@ -51,12 +51,12 @@ pub clock-in-spec : {M : Type 1} → statement M
 clock-in-spec =
     tie.close
     (tie.spec
-    shared-slice-read-switches
+    shared-slice-read-bits
     get32-requires
-    shared-slice-read-t4
-    shared-slice-read-t8
+    shared-slice-read-t6
     shared-slice-read-t10
     shared-slice-read-t12
+    shared-slice-read-t14
     get16-requires
     get16-requires-2
     get32-requires-2
