@@ -11,8 +11,8 @@ use Rattle.layout.specs.Layout.{updateBytes, bytesOf}
 use Rattle.table.specs.Table.{sizeB, startB, emptyB, fieldsB, headB, slots, ring, rowB, soundB, steps}
 use Rattle.log.specs.Writing.{fresh, startOf, placeOf, slotOf, headerAfter, appendOf}
 use Rattle.clock.specs.Answers.{numberOf}
-use Rattle.clock.specs.Events.{unlessBroken, withSwitches, switchesOf}
-use Rattle.clock.specs.Rules.{clockB}
+use Rattle.clock.specs.Events.{unlessBroken, switchesOf}
+use Rattle.clock.specs.Rules.{clockB, timeB}
 use Rattle.clock.specs.Rules as clocks
 use Rattle.clock.specs.State.{newReader}
 use Rattle.update.specs.Accept.{statusAfter, alignedAfter, accuracyOf, acceptedOf, loggedB, updateRecord}
@@ -44,7 +44,7 @@ start = startAt (filled 32) (filled 80)
 
 -- its switches on
 unfoldable pub switches : Ran
-unfolding start switchesAt readStateOf imageB sameB clockIn runningIn unlessBroken switchesOf withSwitches clockB clocks.runningB baseB zoneB dstB sourceB statusB bitsB resultOf stateAfter doneB numberOf imageOf switchesIn fieldsOf fieldBytes results.settledOf
+unfolding start switchesAt readStateOf imageB sameB clockIn runningIn unlessBroken switchesOf clockB timeB clocks.runningB baseB zoneB dstB sourceB statusB bitsB resultOf stateAfter doneB numberOf imageOf switchesIn fieldsOf fieldBytes results.settledOf
 switches = switchesAt (start .state) 1 2 255
 
 -- "Propose 800,000,000 .."
@@ -52,7 +52,7 @@ abbrev pub propose : List ℕ
 propose = 0x02 ∷ 0x43 ∷ 0x00 ∷ 0x00 ∷ 0x08 ∷ 0xaf ∷ 0x2f ∷ 0x04 ∷ 0x00 ∷ 0x02 ∷ 0x01 ∷ []
 
 unfoldable pub written : Called
-unfolding start switches dtcpAt updateOf updateRows effectOf settledOf tableAfter answered firstFailed tableRows writeRows wholeB rows.runningB soundB headB sizeB startB emptyB fieldsB slots ring rowB zerosB decideOf operandOf judged proposalAt groundsOf flagIf epochB rangeB lowerB unrealisticB secondsApart gradeOf localB clockGrade acceptedOf statusAfter alignedAfter accuracyOf loggedB updateRecord responseBytes appendOf steps placeOf slotOf headerAfter bytesOf updateBytes over readStateOf imageB sameB clockIn runningIn clockB clocks.runningB baseB zoneB dstB sourceB statusB bitsB resultOf stateAfter doneB numberOf imageOf switchesIn fieldsOf fieldBytes
+unfolding start switches dtcpAt updateOf updateRows effectOf settledOf tableAfter answered firstFailed tableRows writeRows wholeB rows.runningB soundB headB sizeB startB emptyB fieldsB slots ring rowB zerosB decideOf operandOf judged proposalAt groundsOf flagIf epochB rangeB lowerB unrealisticB secondsApart gradeOf localB clockGrade acceptedOf statusAfter alignedAfter accuracyOf loggedB updateRecord responseBytes appendOf steps placeOf slotOf headerAfter bytesOf updateBytes over readStateOf imageB sameB clockIn runningIn clockB timeB clocks.runningB baseB zoneB dstB sourceB statusB bitsB resultOf stateAfter doneB numberOf imageOf switchesIn fieldsOf fieldBytes
 written = dtcpAt (switches .state) (start .table) propose (filled 20)
 
 pub record Computed : Type 0 where
