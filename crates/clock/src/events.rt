@@ -76,12 +76,13 @@ pub fn disconnect(c: Clock) -> Event
     }
     let time = c.time;
     let switches = all_off();
+    let running = Running::Idle;
     Event {
         answer: Answer::Done,
         clock: Clock {
             time,
             switches,
-            running: Running::Idle,
+            running,
         },
     }
 }
