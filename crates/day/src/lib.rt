@@ -1,4 +1,3 @@
 // A day on a loading ramp, by value: two readers, and what happens to them.
 pub mod play;
-pub mod promises;
 pub mod reader;

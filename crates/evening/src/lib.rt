@@ -1,3 +1,2 @@
 // The evening of a loading day: the tablet fetches a reader's log over the air and carries the day's stamps by it.
 pub mod fetch;
-pub mod promises;

@@ -1,3 +1,2 @@
 // Lines of text for the lists that programs print, each built up by value.
-pub mod promises;
 pub mod text;

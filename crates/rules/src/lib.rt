@@ -1,3 +1,2 @@
 // The rules for the fields that records and the clock share.
 pub mod fields;
-pub mod promises;
