@@ -1,5 +1,6 @@
--- One outcome of each entry point: its result, and every byte or number of each buffer that is lent to be written.
-use Rattle.once.specs.Only.{Door}
+-- One outcome of each entry point: its result, and every byte or number of each buffer that is lent to be written; and of each call on
+-- the images behind them.
+use Rattle.once.specs.Only.{Only, Door}
 use Rattle.firmware.proofs.start.dts_start.Kinds as start-kinds
 use Rattle.firmware.proofs.start.dts_start.Reads as start-reads
 use Rattle.firmware.proofs.events.dts_seconds.Kinds as seconds-kinds
@@ -30,6 +31,14 @@ use Rattle.firmware.proofs.tablet_calls.dts_carry.Kinds as carry-kinds
 use Rattle.firmware.proofs.tablet_calls.dts_carry.Reads as carry-reads
 use Rattle.firmware.proofs.errors.dts_att_error.Kinds as att-error-kinds
 use Rattle.firmware.proofs.errors.dts_att_error.Reads as att-error-reads
+use Rattle.image.proofs.state.image_of.Kinds as image-of-kinds
+use Rattle.image.proofs.state.image_of.Reads as image-of-reads
+use Rattle.image.proofs.state.read_state.Kinds as read-state-kinds
+use Rattle.image.proofs.state.read_state.Reads as read-state-reads
+use Rattle.image.proofs.joining.joining_image.Kinds as joining-image-kinds
+use Rattle.image.proofs.joining.joining_image.Reads as joining-image-reads
+use Rattle.image.proofs.joining.joining_in.Kinds as joining-in-kinds
+use Rattle.image.proofs.joining.joining_in.Reads as joining-in-reads
 
 pub record OneOutcome : Type 0 where
   pub start : Door start-kinds.ps start-kinds.r start-reads.Pre start-reads.Post
@@ -47,3 +56,7 @@ pub record OneOutcome : Type 0 where
   pub read : Door read-kinds.ps read-kinds.r read-reads.Pre read-reads.Post
   pub carry : Door carry-kinds.ps carry-kinds.r carry-reads.Pre carry-reads.Post
   pub att-error : Door att-error-kinds.ps att-error-kinds.r att-error-reads.Pre att-error-reads.Post
+  pub image-of : Only image-of-kinds.ps image-of-kinds.r image-of-reads.Pre image-of-reads.Post
+  pub read-state : Only read-state-kinds.ps read-state-kinds.r read-state-reads.Pre read-state-reads.Post
+  pub joining-image : Only joining-image-kinds.ps joining-image-kinds.r joining-image-reads.Pre joining-image-reads.Post
+  pub joining-in : Only joining-in-kinds.ps joining-in-kinds.r joining-in-reads.Pre joining-in-reads.Post
