@@ -2,4 +2,3 @@ pub mod Codes
 pub mod Request
 pub mod Response
 pub mod Cases
-pub mod Promises

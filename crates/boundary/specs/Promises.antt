@@ -20,32 +20,13 @@ use Rattle.tablet.specs.declared.joining.Joining.{Joining}
 use Rattle.image.specs.State.{imageOf}
 use Rattle.image.specs.Joining.{joiningImage}
 use Rattle.image.specs.Promises.{Fits}
-use Rattle.firmware.specs.Results.{Ran}
-use Rattle.firmware.specs.Start.{StartedBytes, started, startAt}
+use Rattle.firmware.specs.Start.{started, startAt}
 use Rattle.firmware.specs.Events.{eventful, onB, secondsAt, switchesAt, disconnectAt}
-use Rattle.firmware.specs.Calls.{Called, called, replied, notified, faultAt, dtcpAt, racpAt, notifyAt}
-use Rattle.firmware.specs.ValuesRead.{Shown, answered, deviceTimeAt, featureAt, parametersAt}
-use Rattle.firmware.specs.TabletCalls.{JoinedBytes, joinedBytes, joinAt, ReadNumbers, readAt, CarriedTo, carryAt}
+use Rattle.firmware.specs.Calls.{called, replied, notified, faultAt, dtcpAt, racpAt, notifyAt}
+use Rattle.firmware.specs.ValuesRead.{answered, deviceTimeAt, featureAt, parametersAt}
+use Rattle.firmware.specs.TabletCalls.{joinedBytes, joinAt, readAt, carryAt}
 use Rattle.firmware.specs.Errors.{attErrorAt}
 use Rattle.firmware.specs.Results.{ran}
-
--- Two outcomes that meet an entry point's promise are one outcome.
-pub record OneOutcome : Type 0 where
-  pub start : (s t : List ℕ) (x y : StartedBytes) → x ≡ startAt s t → y ≡ startAt s t → x ≡ y
-  pub seconds : (s : List ℕ) (n : ℕ) (x y : Ran) → x ≡ secondsAt s n → y ≡ secondsAt s n → x ≡ y
-  pub switches : (s : List ℕ) (a b d : ℕ) (x y : Ran) → x ≡ switchesAt s a b d → y ≡ switchesAt s a b d → x ≡ y
-  pub disconnect : (s : List ℕ) (x y : Ran) → x ≡ disconnectAt s → y ≡ disconnectAt s → x ≡ y
-  pub fault : (s t o : List ℕ) (x y : Called) → x ≡ faultAt s t o → y ≡ faultAt s t o → x ≡ y
-  pub dtcp-write : (s t w o : List ℕ) (x y : Called) → x ≡ dtcpAt s t w o → y ≡ dtcpAt s t w o → x ≡ y
-  pub racp-write : (s t w o : List ℕ) (x y : Called) → x ≡ racpAt s t w o → y ≡ racpAt s t w o → x ≡ y
-  pub notify : (s t : List ℕ) (p : ℕ) (o : List ℕ) (x y : Called) → x ≡ notifyAt s t p o → y ≡ notifyAt s t p o → x ≡ y
-  pub device-time : (s t o : List ℕ) (x y : Shown) → x ≡ deviceTimeAt s t o → y ≡ deviceTimeAt s t o → x ≡ y
-  pub feature : (o : List ℕ) (x y : Shown) → x ≡ featureAt o → y ≡ featureAt o → x ≡ y
-  pub parameters : (o : List ℕ) (x y : Shown) → x ≡ parametersAt o → y ≡ parametersAt o → x ≡ y
-  pub join : (j n : List ℕ) (x y : JoinedBytes) → x ≡ joinAt j n → y ≡ joinAt j n → x ≡ y
-  pub read : (b f : List ℕ) (x y : ReadNumbers) → x ≡ readAt b f → y ≡ readAt b f → x ≡ y
-  pub carry : (stamp q : ℕ) (t : List ℕ) (z : ℤ) (x y : CarriedTo) → x ≡ carryAt stamp q t z → y ≡ carryAt stamp q t z → x ≡ y
-  pub att-error : (n : ℕ) (x y : ℤ) → x ≡ attErrorAt n → y ≡ attErrorAt n → x ≡ y
 
 -- "A refusal leaves state, log and output untouched": where the result is below 0, all that is lent is as it was; "10 empties the joining
 -- state": every byte of it is 0.

@@ -1,12 +1,7 @@
 // What is promised of the entry points beyond each one's own equation: each the promise of an empty function,
 // so that the check asks for its proof.
-ghost use Rattle.boundary.specs.Promises.{OneOutcome, RefusedUnchanged, Composes, Errors};
+ghost use Rattle.boundary.specs.Promises.{RefusedUnchanged, Composes, Errors};
 ghost use Rattle.boundary.specs.Cases.{Computed};
-
-// No second outcome meets an entry point's promise.
-pub fn one_outcome()
-    ensures { λ _. ⌜ OneOutcome ⌝ }
-{}
 
 // A result below 0 leaves every lent byte as it was, but for joining, where it leaves zeros.
 pub fn refused_unchanged()

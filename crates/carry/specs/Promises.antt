@@ -10,13 +10,7 @@ use Rattle.octets.specs.Choice.{pick}
 use Rattle.table.specs.Table.{count, next, held, soundB}
 use Rattle.log.specs.Writing.{newest}
 use Rattle.carry.specs.Carry.{laterOf, noFaultB, carryOf, numberOf}
-use Rattle.carry.specs.declared.stamp.Carried.{Carried}
 use Rattle.carry.specs.declared.stamp.Carried.the-variants.{To, PastRange}
-
--- Two outcomes that meet a call's promise are one outcome.
-pub record OneOutcome : Type 0 where
-  pub carry : (stamp q : ℕ) (t : List ℕ) (x y : Carried) → x ≡ carryOf stamp q t → y ≡ carryOf stamp q t → x ≡ y
-  pub number-of : (c : Carried) (x y : ℕ) → x ≡ numberOf c → y ≡ numberOf c → x ≡ y
 
 -- Carrying refuses with 1 exactly where the table isn't sound, else with 12 exactly where m exceeds H, else with 13 exactly where a Time_Fault is
 -- among the m newest records.

@@ -1,11 +1,7 @@
 // What is promised of carrying beyond each call's own equation: each the promise of an empty function,
 // so that the check asks for its proof.
-ghost use Rattle.carry.specs.Promises.{OneOutcome, Answers, NeverPastRange, Unchanged};
+ghost use Rattle.carry.specs.Promises.{Answers, NeverPastRange, Unchanged};
 ghost use Rattle.carry.specs.Cases.{Computed};
-
-pub fn one_outcome()
-    ensures { λ _. ⌜ OneOutcome ⌝ }
-{}
 
 // Each refusal exactly where its row says so.
 pub fn answers()

@@ -2,25 +2,12 @@
 use mathlib.Core.Path.{_≡_}
 use mathlib.Core.Bool.{Bool, true}
 use Prim.Native.Nat.{ℕ, _+_}
-use Rattle.clock.specs.Answers.{numberOf, attErrorOf}
+use Rattle.clock.specs.Answers.{numberOf}
 use Rattle.clock.specs.State.{newReader}
-use Rattle.filter.specs.declared.request.Filter.{Filter}
-use Rattle.clock.specs.Rules.{filterB, clockB}
+use Rattle.clock.specs.Rules.{clockB}
 use Rattle.clock.specs.Events.{secondsOf, switchesOf, disconnectOf, withBase}
-use Rattle.clock.specs.declared.answers.Answer.{Answer}
 use Rattle.clock.specs.declared.events.Event.{Event}
 use Rattle.clock.specs.declared.state.Clock.{Clock}
-
--- Two outcomes that meet a call's promise are one outcome.
-pub record OneOutcome : Type 0 where
-  pub number-of : (a : Answer) (x y : ℕ) → x ≡ numberOf a → y ≡ numberOf a → x ≡ y
-  pub att-error-of : (a : Answer) (x y : ℕ) → x ≡ attErrorOf a → y ≡ attErrorOf a → x ≡ y
-  pub new-reader : (x y : Clock) → x ≡ newReader → y ≡ newReader → x ≡ y
-  pub filter-ok : (f : Filter) (x y : Bool) → x ≡ filterB f → y ≡ filterB f → x ≡ y
-  pub clock-ok : (c : Clock) (x y : Bool) → x ≡ clockB c → y ≡ clockB c → x ≡ y
-  pub seconds : (c : Clock) (n : ℕ) (x y : Event) → x ≡ secondsOf c n → y ≡ secondsOf c n → x ≡ y
-  pub switches : (c : Clock) (a b d : Bool) (x y : Event) → x ≡ switchesOf c a b d → y ≡ switchesOf c a b d → x ≡ y
-  pub disconnect : (c : Clock) (x y : Event) → x ≡ disconnectOf c → y ≡ disconnectOf c → x ≡ y
 
 -- "A refusal leaves state .. untouched": where the number is not 0, the clock is the one given.
 abbrev pub Untouched : Clock → Event → Type 0

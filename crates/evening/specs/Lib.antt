@@ -1,2 +1,1 @@
 pub mod Fetch
-pub mod Promises

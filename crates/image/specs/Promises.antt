@@ -16,15 +16,7 @@ use Rattle.tablet.specs.Joining.{mostBytes, emptyJoining}
 use Rattle.tablet.specs.declared.joining.Joining.{Joining}
 use Rattle.image.specs.State.{stateBytes, imageOf, clockIn, imageB, readStateOf}
 use Rattle.image.specs.Joining.{joiningBytes, joiningImage, joiningIn}
-use Rattle.image.specs.declared.state.StateRead.{StateRead}
 use Rattle.image.specs.declared.state.StateRead.the-variants.{Is}
-
--- Two outcomes that meet a call's promise are one outcome.
-pub record OneOutcome : Type 0 where
-  pub image-of : (c : Clock) (x y : List ℕ) → x ≡ imageOf c → y ≡ imageOf c → x ≡ y
-  pub read-state : (s : List ℕ) (x y : StateRead) → x ≡ readStateOf s → y ≡ readStateOf s → x ≡ y
-  pub joining-image : (j : Joining) (x y : List ℕ) → x ≡ joiningImage j → y ≡ joiningImage j → x ≡ y
-  pub joining-in : (s : List ℕ) (x y : Joining) → x ≡ joiningIn s → y ≡ joiningIn s → x ≡ y
 
 -- Each field fits its width. The types in the code say so of every clock there.
 abbrev pub FilterFits : Filter → Type 0

@@ -1,11 +1,6 @@
 // What is promised of the images beyond each call's own equation: each the promise of an empty function, so
 // that the check asks for its proof.
-ghost use Rattle.image.specs.Promises.{OneOutcome, StateImages, JoiningImages};
-
-// No second outcome meets a call's promise.
-pub fn one_outcome()
-    ensures { λ _. ⌜ OneOutcome ⌝ }
-{}
+ghost use Rattle.image.specs.Promises.{StateImages, JoiningImages};
 
 // A clock that obeys its rules and its image of 32 bytes stand for each other.
 pub fn state_images()

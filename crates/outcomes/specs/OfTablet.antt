@@ -6,20 +6,9 @@ use mathlib.Core.List.{List, [], _++_}
 use Prim.Native.Nat.{ℕ, _<_}
 use lib.ListN.{length}
 use Rattle.octets.specs.Choice.{pick}
-use Rattle.record.specs.declared.kinds.Reading.{Reading}
 use Rattle.tablet.specs.Joining.{empty, inside, mostBytes, emptyJoining, rangesB, insideB, firstBit, counterIn, body, lenAfter, takesB, joined, joinOf, numberOf, recordIn, Takes}
-use Rattle.tablet.specs.Reading.{readJoinedOf}
-use Rattle.tablet.specs.declared.joining.Answer.{Answer}
 use Rattle.tablet.specs.declared.joining.Answer.the-variants.{Refused}
 use Rattle.tablet.specs.declared.joining.Joining.{Joining}
-use Rattle.tablet.specs.declared.joining.Joined.{Joined}
-
--- Two outcomes that meet a call's promise are one outcome.
-pub record OneOutcome : Type 0 where
-  pub restart : (x y : Joining) → x ≡ emptyJoining → y ≡ emptyJoining → x ≡ y
-  pub join : (j : Joining) (n : List ℕ) (x y : Joined) → x ≡ joinOf j n → y ≡ joinOf j n → x ≡ y
-  pub number-of : (a : Answer) (x y : ℕ) → x ≡ numberOf a → y ≡ numberOf a → x ≡ y
-  pub read-joined : (j : Joining) (x y : Reading) → x ≡ readJoinedOf j → y ≡ readJoinedOf j → x ≡ y
 
 -- "10 empties the joining state": the number is 10 exactly where the notification is not taken, and nothing is left then.
 pub record RefusedEmpties : Type 0 where

@@ -2,21 +2,18 @@
 -- changes nothing, a report begins exactly where something matches, Number counts, and the clock goes on obeying its rules.
 use mathlib.Core.Path.{_≡_}
 use mathlib.Core.Bool.{Bool, true, false, not}
-use mathlib.Core.List.{List, [], _∷_}
+use mathlib.Core.List.{List, []}
 use Prim.Native.Nat.{ℕ}
 use lib.Dec.{eqb}
 use lib.ListN.{length}
 use Rattle.octets.specs.Choice.{both, pick}
 use Rattle.octets.specs.Numbers.{at}
 use Rattle.filter.specs.declared.request.Filter.{Filter}
-use Rattle.record.specs.declared.kinds.Record.{Record}
 use Rattle.table.specs.Table.{soundB}
 use Rattle.held.specs.Matching.{matching}
 use Rattle.clock.specs.State.{withRunning}
 use Rattle.clock.specs.declared.state.Clock.{Clock}
-use Rattle.clock.specs.declared.state.Left.{Left}
 use Rattle.clock.specs.declared.state.Left.the-variants.{From}
-use Rattle.clock.specs.declared.state.Running.{Running}
 use Rattle.clock.specs.declared.state.Running.the-variants.{Reporting}
 use Rattle.refusals.specs.Outcome.{Outcome, doneB, answered}
 use Rattle.refusals.specs.Rows.{firstFailed, wholeB}
@@ -27,16 +24,9 @@ use Rattle.access.specs.Response.{numberResponse, codeResponse, codeBytes, coun
 use Rattle.access.specs.declared.codes.Code.the-variants.{NoRecordsFound}
 use Rattle.access.specs.declared.request.Request.{Request}
 use Rattle.access.specs.declared.request.Request.the-variants.{Report, Number, Abort, Refused}
-use Rattle.asking.specs.Report.{report, numberIn, leftFrom, noneB}
+use Rattle.asking.specs.Report.{report, numberIn, noneB}
 use Rattle.asking.specs.Access.{accessRows, accessOf}
 use Rattle.transfer.specs.Notify.{Notice, unsaid, notifyOf}
-
--- Two outcomes that meet a call's promise are one outcome.
-pub record OneOutcome : Type 0 where
-  pub notify : (c : Clock) (t : List ℕ) (p : ℕ) (o : List ℕ) (x y : Notice) → x ≡ notifyOf c t p o → y ≡ notifyOf c t p o → x ≡ y
-  pub record-access : (c : Clock) (t w o : List ℕ) (x y : Outcome) → x ≡ accessOf c t w o → y ≡ accessOf c t w o → x ≡ y
-  pub left-from : (f : Filter) (t : List ℕ) (k : ℕ) (x y : Left) → x ≡ leftFrom f t k → y ≡ leftFrom f t k → x ≡ y
-  pub with-running : (c : Clock) (r : Running) (x y : Clock) → x ≡ withRunning c r → y ≡ withRunning c r → x ≡ y
 
 -- "A refusal leaves state, log and output untouched", and it closes nothing.
 abbrev pub Silent : Clock → List ℕ → Notice → Type 0

@@ -1,37 +1,14 @@
 -- What is promised of time updates beyond each call's own equation (document 01, "Time updates"): each ground by itself, and all of them at
 -- once.
 use mathlib.Core.Path.{_≡_}
-use mathlib.Core.Bool.{Bool}
 use mathlib.Core.List.{List, [], _∷_, _++_}
 use Prim.Native.Nat.{ℕ, _+_}
 use Rattle.octets.specs.Numbers.{bytes2, bytes4}
-use Rattle.record.specs.declared.kinds.Record.{Record}
-use Rattle.clock.specs.declared.state.Clock.{Clock}
-use Rattle.clock.specs.declared.state.Time.{Time}
-use Rattle.judging.specs.Proposal.{proposalAt}
-use Rattle.judging.specs.Grades.{clockGrade, gradeOf}
-use Rattle.judging.specs.Grounds.{secondsApart, unrealistic, outOfRange, lowerQuality, wrongEpoch, groundsOf}
+use Rattle.judging.specs.Grounds.{unrealistic, outOfRange, lowerQuality, wrongEpoch}
 use Rattle.update.specs.Decide.{proposeOpcode, forceOpcode, decideOf}
-use Rattle.update.specs.Accept.{acceptedOf, loggedB, updateRecord}
-use Rattle.update.specs.Response.{responseOf}
 use Rattle.outcomes.specs.UpdateCases.{f2}
 use Rattle.judging.specs.declared.proposal.Proposal.{Proposal}
-use Rattle.update.specs.declared.decide.Decision.{Decision}
 use Rattle.update.specs.declared.decide.Decision.the-variants.{Rejected, Taken}
-use Rattle.update.specs.declared.response.Response.{Response}
-
--- Two outcomes that meet a call's promise are one outcome.
-pub record OneOutcome : Type 0 where
-  pub proposal-at : (w : List ℕ) (x y : Proposal) → x ≡ proposalAt w → y ≡ proposalAt w → x ≡ y
-  pub clock-grade : (s x y : ℕ) → x ≡ clockGrade s → y ≡ clockGrade s → x ≡ y
-  pub grade-of : (p : Proposal) (x y : ℕ) → x ≡ gradeOf p → y ≡ gradeOf p → x ≡ y
-  pub seconds-apart : (a b x y : ℕ) → x ≡ secondsApart a b → y ≡ secondsApart a b → x ≡ y
-  pub grounds : (t : Time) (p : Proposal) (f : Bool) (x y : ℕ) → x ≡ groundsOf t p f → y ≡ groundsOf t p f → x ≡ y
-  pub decide : (c : Clock) (w : List ℕ) (x y : Decision) → x ≡ decideOf c w → y ≡ decideOf c w → x ≡ y
-  pub accepted : (c : Clock) (p : Proposal) (x y : Clock) → x ≡ acceptedOf c p → y ≡ acceptedOf c p → x ≡ y
-  pub is-logged : (c : Clock) (p : Proposal) (x y : Bool) → x ≡ loggedB c p → y ≡ loggedB c p → x ≡ y
-  pub update-record : (c : Clock) (p : Proposal) (n : ℕ) (x y : Record) → x ≡ updateRecord c p n → y ≡ updateRecord c p n → x ≡ y
-  pub response-of : (o : ℕ) (d : Decision) (x y : Response) → x ≡ responseOf o d → y ≡ responseOf o d → x ≡ y
 
 -- a proposal, and the write that brings it: flags, base, zone; DST 0, source 2 (GPS), accuracy 1
 abbrev proposal : ℕ → ℕ → ℕ → Proposal

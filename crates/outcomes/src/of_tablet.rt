@@ -1,11 +1,7 @@
 // What is promised of joining and reading beyond each call's own equation: each the promise of an empty
 // function, so that the check asks for its proof.
-ghost use Rattle.outcomes.specs.OfTablet.{OneOutcome, RefusedEmpties, Refuses, KeepsRanges, BuildsUp};
+ghost use Rattle.outcomes.specs.OfTablet.{RefusedEmpties, Refuses, KeepsRanges, BuildsUp};
 ghost use Rattle.outcomes.specs.TabletCases.{Computed};
-
-pub fn one_outcome()
-    ensures { λ _. ⌜ OneOutcome ⌝ }
-{}
 
 pub fn refused_empties()
     ensures { λ _. ⌜ RefusedEmpties ⌝ }

@@ -1,12 +1,7 @@
 // What is promised of record access and notifications beyond each call's own equation: each the promise of
 // an empty function, so that the check asks for its proof.
-ghost use Rattle.outcomes.specs.OfTransfer.{OneOutcome, RefusedUnchanged, AcceptedWhenMatching, NumberCounts, Obeys};
+ghost use Rattle.outcomes.specs.OfTransfer.{RefusedUnchanged, AcceptedWhenMatching, NumberCounts, Obeys};
 ghost use Rattle.outcomes.specs.TransferCases.{Computed};
-
-// No second outcome meets a call's promise.
-pub fn one_outcome()
-    ensures { λ _. ⌜ OneOutcome ⌝ }
-{}
 
 // A refusal changes nothing and closes nothing.
 pub fn refused_unchanged()

@@ -1,11 +1,7 @@
 // What is promised of time updates beyond each call's own equation: each the promise of an empty function,
 // so that the check asks for its proof.
-ghost use Rattle.outcomes.specs.OfUpdate.{OneOutcome, GroundsAlone, AllGrounds};
+ghost use Rattle.outcomes.specs.OfUpdate.{GroundsAlone, AllGrounds};
 ghost use Rattle.outcomes.specs.UpdateCases.{Computed};
-
-pub fn one_outcome()
-    ensures { λ _. ⌜ OneOutcome ⌝ }
-{}
 
 pub fn grounds_alone()
     ensures { λ _. ⌜ GroundsAlone ⌝ }

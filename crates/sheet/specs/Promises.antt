@@ -1,18 +1,10 @@
--- Each line has one text; and lines with what an ordinary day does not show, run by the checker.
+-- Lines with what an ordinary day does not show, run by the checker.
 use mathlib.Core.Path.{_≡_}
 use mathlib.Core.List.{[], _∷_}
-use Prim.Native.Nat.{ℕ}
 use lib.IntN.{pos, negsuc}
-use Rattle.lines.specs.Text.{textOf}
-use Rattle.lines.specs.declared.text.Line.{Line}
 use Rattle.carry.specs.declared.stamp.Carried.the-variants.{To, TableNotSound, NotHeld}
-use Rattle.sheet.specs.Sheet.{tagLine, titleLine}
-use Rattle.sheet.specs.declared.text.Sight.{Sight}
+use Rattle.sheet.specs.Sheet.{tagLine}
 use Rattle.sheet.specs.declared.text.Sight.the-variants.{Missed, Seen}
-
-pub record OneOutcome : Type 0 where
-  pub tag-line : (tag : ℕ) (left right : Sight) (x y : Line) → textOf x ≡ tagLine tag left right → textOf y ≡ tagLine tag left right → textOf x ≡ textOf y
-  pub title-line : (x y : Line) → textOf x ≡ titleLine → textOf y ≡ titleLine → textOf x ≡ textOf y
 
 pub record Computed : Type 0 where
   -- `9 00:00:07 23:59:59 86392 | before refused 12 -`

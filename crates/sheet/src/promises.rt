@@ -1,11 +1,6 @@
 // What the promises of this crate come to: each the promise of an empty function, so that the check asks for its
 // proof.
-ghost use Rattle.sheet.specs.Promises.{OneOutcome, Computed};
-
-// No second text meets a line's promise.
-pub fn one_outcome()
-    ensures { λ _. ⌜ OneOutcome ⌝ }
-{}
+ghost use Rattle.sheet.specs.Promises.{Computed};
 
 // Lines with what an ordinary day does not show.
 pub fn computed()

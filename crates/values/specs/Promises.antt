@@ -4,15 +4,9 @@ use mathlib.Core.Bool.{false}
 use mathlib.Core.List.{List}
 use Prim.Native.Nat.{ℕ}
 use Rattle.clock.specs.declared.state.Clock.{Clock}
-use Rattle.refusals.specs.Outcome.{Outcome, doneB}
+use Rattle.refusals.specs.Outcome.{doneB}
 use Rattle.service.specs.Promises.{Untouched}
-use Rattle.values.specs.Value.{Told, deviceTimeOf, featureOf, parametersOf}
-
--- Two outcomes that meet a call's promise are one outcome.
-pub record OneOutcome : Type 0 where
-  pub device-time : (c : Clock) (t o : List ℕ) (x y : Outcome) → x ≡ deviceTimeOf c t o → y ≡ deviceTimeOf c t o → x ≡ y
-  pub feature : (o : List ℕ) (x y : Told) → x ≡ featureOf o → y ≡ featureOf o → x ≡ y
-  pub parameters : (o : List ℕ) (x y : Told) → x ≡ parametersOf o → y ≡ parametersOf o → x ≡ y
+use Rattle.values.specs.Value.{deviceTimeOf, featureOf, parametersOf}
 
 -- "A refusal leaves state, log and output untouched"; reading Device Time leaves clock and table as they were in any case.
 pub record RefusedUnchanged : Type 0 where

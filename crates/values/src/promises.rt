@@ -1,12 +1,7 @@
 // What is promised of the values beyond each call's own equation: each the promise of an empty function, so
 // that the check asks for its proof.
-ghost use Rattle.values.specs.Promises.{OneOutcome, RefusedUnchanged};
+ghost use Rattle.values.specs.Promises.{RefusedUnchanged};
 ghost use Rattle.values.specs.Cases.{Computed};
-
-// No second outcome meets a call's promise.
-pub fn one_outcome()
-    ensures { λ _. ⌜ OneOutcome ⌝ }
-{}
 
 // Reading changes neither clock nor table, and a refusal not the output either.
 pub fn refused_unchanged()

@@ -1,7 +1,0 @@
-// What the promises of this crate come to. The function does nothing: its promise is the theorem.
-ghost use Rattle.evening.specs.Promises.{OneOutcome};
-
-// No second outcome meets a function's promise.
-pub fn one_outcome()
-    ensures { λ _. ⌜ OneOutcome ⌝ }
-{}

@@ -1,0 +1,9 @@
+pub mod Only
+pub mod OfRecords
+pub mod OfTables
+pub mod OfServer
+pub mod OfBehind
+pub mod OfTablet
+pub mod OfBoundary
+pub mod OfPrograms
+pub mod Weaker
