@@ -8,7 +8,7 @@ returns : tie.Need-returns
 returns c =
     record {
       image-of = λ c x y p q. p ∙ sym q;
-      read-state = λ s x y p q. p ∙ sym q;
+      clock-of = λ s x y p q. p ∙ sym q;
       joining-image = λ j x y p q. p ∙ sym q;
       joining-in = λ s x y p q. p ∙ sym q;
     }
