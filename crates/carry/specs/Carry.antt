@@ -1,4 +1,5 @@
--- Document 01, "Carrying a stamp": "Given a stamp (unsigned 32 bits), its next sequence number q and a table".
+-- Carrying a stamp (document 01, "Carrying a stamp"), "Given a stamp (unsigned 32 bits), its next sequence number q and a table": how many
+-- records came later, what one adds, the sum over them, and the call.
 use mathlib.Core.Bool.{Bool, true, false}
 use mathlib.Core.List.{List, [], _∷_}
 use Prim.Native.Nat.{ℕ, _+_, _-_, _%_}

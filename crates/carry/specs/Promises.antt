@@ -1,4 +1,5 @@
--- What is promised of carrying beyond each call's own equation.
+-- What is promised of carrying beyond each call's own equation (document 01, "Carrying a stamp"): which refusal comes when, that 14 never
+-- does, and that a stamp without later records stays.
 use mathlib.Core.Path.{_≡_}
 use mathlib.Core.Bool.{true}
 use mathlib.Core.List.{List}

@@ -1,4 +1,4 @@
-// Carrying a stamp: it is moved as the clock was moved by each later record.
+// Carrying a stamp (document 01, "Carrying a stamp"): it is moved as the clock was moved by each later record.
 use held::look::held_count;
 use held::look::next_number;
 use held::look::record_at;

@@ -1,5 +1,6 @@
--- The servers that document 01 shuts out. A promise is said of any server; it holds of the right one and of none of the wrong ones, each of which
--- differs from the right one in one part.
+-- The servers that document 01 shuts out ("What the drivers hold each promise to" and "Easy to get wrong"): time updates, record access,
+-- time faults. A promise is said of any server; it holds of the right one and of none of the wrong ones, each of which differs from the
+-- right one in one part.
 use mathlib.Core.Path.{_≡_}
 use mathlib.Core.Bool.{Bool, true, false, not}
 use mathlib.Core.List.{List, [], _∷_}

@@ -1,3 +1,5 @@
-// The paper's own cases, and the servers that it shuts out, on the definitions that the public calls' promises cite.
+// The paper's twelve cases, `twelve`, and the servers that it shuts out, `wrong` (document 01, "Numbers the drivers
+// worked out" and "What the drivers hold each promise to"), on the definitions that the public calls' promises cite.
+// No code of its own.
 pub mod twelve;
 pub mod wrong;

@@ -1,4 +1,4 @@
--- What happens on a ramp of two antennas, one thing after the other.
+-- A day on a ramp of two antennas: two readers just started, and what happens at one of them or at both, one thing after the other.
 use mathlib.Core.List.{List, [], _∷_}
 use Rattle.day.specs.Reader.{startedOf, livedOf}
 use Rattle.day.specs.declared.play.Antenna.{Antenna}

@@ -1,4 +1,4 @@
-// The day: what happens on the ramp, one thing after the other.
+// A day on the ramp: two readers just started, and what happens at one of them or at both, one thing after the other.
 use crate::reader::Event;
 use crate::reader::Reader;
 use crate::reader::lived;

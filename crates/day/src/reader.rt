@@ -1,4 +1,5 @@
-// One antenna's reader: its clock, its log of eight slots, and what it noted of each tag; and what happens to it.
+// One antenna's reader: its clock, its log of eight slots, what it noted of each tag. Then what can happen to it, and
+// `lived`, which goes by the event.
 use clock::events::disconnect;
 use clock::events::seconds;
 use clock::events::switches;

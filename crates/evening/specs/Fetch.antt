@@ -1,4 +1,5 @@
--- The evening: the tablet fetches a log over the air and carries the stamps by what it has got.
+-- The evening: the tablet asks a reader for all its records, joins and reads them into a table of its own, and carries the day's stamps by
+-- that table.
 use mathlib.Core.Bool.{Bool, true, false}
 use mathlib.Core.List.{List, [], _∷_}
 use Prim.Native.Nat.{ℕ, zero, suc}

@@ -1,4 +1,5 @@
-// The evening: the tablet fetches a reader's log over the air into a table of its own, and carries the stamps by it.
+// The evening: the tablet asks a reader for all its records, joins and reads them into a table of its own, and
+// carries the day's stamps by that table.
 use asking::record_access::record_access;
 use carry::stamp::carry;
 use clock::state::Clock;

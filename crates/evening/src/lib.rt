@@ -1,3 +1,3 @@
-// The evening of a loading day: the tablet fetches a reader's log over the air and carries the day's stamps by it.
+// The evening of a loading day: a reader's log fetched over the air, and the day's stamps carried by it, `fetch`.
 pub mod fetch;
 pub mod promises;

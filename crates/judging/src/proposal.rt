@@ -1,4 +1,4 @@
-// The operand of both time updates (document 002, Table 3.16, without second fractions), by value.
+// The operand of Propose and Force Time Update, by value: document 002, Table 3.16, without second fractions.
 use octets::numbers::get16;
 use octets::numbers::get32;
 ghost use mathlib.Core.Path.{_≡_};

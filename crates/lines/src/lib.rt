@@ -1,3 +1,3 @@
-// Lines of text for the lists that programs print, each built up by value.
+// Lines of text for what programs print, each built up by value: `text`.
 pub mod promises;
 pub mod text;

@@ -1,4 +1,4 @@
--- Parts of byte strings.
+-- Byte strings: a part, all zero, two the same, one laid over another, and that each element is a byte.
 use mathlib.Core.Bool.{Bool, true, false}
 use mathlib.Core.List.{List, [], _∷_, _++_}
 use Prim.Native.Nat.{ℕ, _+_, _<_}

@@ -1,4 +1,5 @@
-// Tests put together with no branch: a rule of many parts is then one straight line of code.
+// `both` stands for `&&`: its two tests are made first, then put together. So a function that tests many fields has
+// one path, and its proof one case.
 ghost use mathlib.Core.Path.{_≡_};
 ghost use Rattle.octets.specs.Choice.{both as Choice·both};
 

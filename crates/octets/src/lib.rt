@@ -1,5 +1,5 @@
-// Numbers in bytes, parts of byte strings, and tests put together: what every layer above reads and
-// writes with.
+// What every layer above reads and writes with: numbers in bytes, `numbers`; parts of byte strings, `parts`; two
+// tests put together, `choice`.
 pub mod choice;
 pub mod numbers;
 pub mod parts;

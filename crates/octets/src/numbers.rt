@@ -1,4 +1,4 @@
-// Numbers in bytes, lowest byte first ("Numbers are little endian").
+// Numbers in bytes, lowest byte first: "Numbers are little endian" (document 01, "Log table, a lent buffer").
 ghost use mathlib.Core.Path.{_≡_};
 ghost use Prim.Native.Nat.{_+_, _*_, _≤_};
 ghost use lib.ListN.{length};

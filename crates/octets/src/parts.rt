@@ -1,4 +1,4 @@
-// Parts of byte strings: all zero, filled with zeros, copied over.
+// Byte strings and parts of them: tested for zeros, cleared, copied, laid over another.
 ghost use mathlib.Core.Path.{_≡_};
 ghost use Prim.Native.Nat.{_+_, _≤_};
 ghost use lib.ListN.{length, replicate};

@@ -1,4 +1,5 @@
--- What is promised of joining and reading beyond each call's own equation.
+-- What is promised of joining and reading beyond each call's own equation (document 01, "RACP and notifications"): what a refusal leaves,
+-- what is refused, that the state keeps its ranges, and how the record builds up.
 use mathlib.Core.Path.{_≡_}
 use mathlib.Core.Bool.{true, false}
 use mathlib.Core.List.{List, [], _++_}

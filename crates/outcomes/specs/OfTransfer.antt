@@ -1,4 +1,5 @@
--- What is promised of record access and notifications beyond each call's own equation.
+-- What is promised of record access and notifications beyond each call's own equation (document 01, "RACP and notifications"): a refusal
+-- changes nothing, a report begins exactly where something matches, Number counts, and the clock goes on obeying its rules.
 use mathlib.Core.Path.{_≡_}
 use mathlib.Core.Bool.{Bool, true, false, not}
 use mathlib.Core.List.{List, [], _∷_}

@@ -1,4 +1,5 @@
--- What is promised of time updates beyond each call's own equation.
+-- What is promised of time updates beyond each call's own equation (document 01, "Time updates"): each ground by itself, and all of them at
+-- once.
 use mathlib.Core.Path.{_≡_}
 use mathlib.Core.Bool.{Bool}
 use mathlib.Core.List.{List, [], _∷_, _++_}

@@ -1,4 +1,5 @@
--- What the tablet hears of a report: the segments in their order, up to the closing response.
+-- What the tablet hears of a report among any calls: the segments in their order, up to the closing response; and whether a call ended the
+-- report before it.
 use mathlib.Core.Bool.{Bool, true, false, not}
 use mathlib.Core.List.{List, [], _∷_}
 use Prim.Native.Nat.{ℕ}

@@ -1,4 +1,4 @@
--- What holds from start on.
+-- What holds of a reader from start on, over any calls: theorem Reachable, and theorem Reached report.
 use mathlib.Core.Path.{_≡_}
 use mathlib.Core.Bool.{true}
 use mathlib.Core.List.{List}

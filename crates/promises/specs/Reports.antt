@@ -1,4 +1,5 @@
--- The theorems about reports (document 01, "RACP and notifications").
+-- The theorems about reports (document 01, "RACP and notifications"): Accepted report, Heard report, Calm calls, and Finished report, for
+-- which a way of notifying is left open, so that wrong ways can be shown wrong.
 use mathlib.Core.Path.{_≡_}
 use mathlib.Core.Bool.{Bool, true, false}
 use mathlib.Core.List.{List, [], _∷_, map}

@@ -1,4 +1,5 @@
-// What a call answers, beside the bytes of the table and the output it was lent.
+// What a call with a table and an output answers: the answer, the clock after it, how many bytes of the output are
+// its response. The bytes themselves are in the buffers that were lent.
 use clock::answers::Answer;
 use clock::state::Clock;
 ghost use mathlib.Core.Path.{_≡_};
@@ -11,7 +12,7 @@ pub struct Reply {
     pub len: usize,
 }
 
-// 0 means done. `pub` for the calls of the crate `transfer`.
+// "0 means done": is the answer no refusal?
 pub fn done(a: Answer) -> bool
     ensures { λ r. ⌜ r ≡ doneB a ⌝ }
 {

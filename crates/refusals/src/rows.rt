@@ -1,5 +1,5 @@
-// The rows of document 01, "Refusal numbers, tested in this order", that calls with a table share. `pub`
-// for the calls of the layers above.
+// The rows of document 01, "Refusal numbers, tested in this order", that the calls with a table share: 1, 2, 3 of
+// each of them, then 4, 5, 6 of a write to a control point. Row 8 stands with its one call.
 use crate::reply::done;
 use crate::whole::running_ok;
 use clock::answers::Answer;
@@ -59,7 +59,8 @@ pub fn write_rows(len: usize, on: bool, free: bool) -> Answer
     Answer::Done
 }
 
-// The first refusal of two rows of rows.
+// Of the answers of two groups of rows, as 1 to 3 and 4 to 6, the one that counts: the first group's refusal, or
+// where that has none, whatever the second group says.
 pub fn and_then(first: Answer, second: Answer) -> Answer
     ensures { λ a. ⌜ a ≡ thenOf first second ⌝ }
 {

@@ -1,3 +1,3 @@
-// The rules for the fields that records and the clock share.
+// The rules for the fields that records and the clock share (document 01, "Clock state"): each as a test, `fields`.
 pub mod fields;
 pub mod promises;

@@ -1,5 +1,6 @@
-// The server's calls that take the log table: what a call tests at the door, in the paper's order, what it
-// decides, and what it writes.
+// The server's calls that write the log table: starting a reader, `start`; the time fault, `fault`; a time update,
+// `time_update`. Each tests its rows at the door, decides, and then writes. What is promised of them together,
+// `promises`.
 pub mod fault;
 pub mod promises;
 pub mod start;

@@ -1,4 +1,5 @@
--- The theorem of the carried stamp (document 01, "Carrying a stamp"), over a way of carrying, so that wrong ways can be shown wrong.
+-- The theorem Carried stamp (document 01, "Carrying a stamp"): the seconds that ran and the records logged in a history of calls, what the
+-- log holds of them, and what carrying then answers. The way of carrying is left open, so that wrong ways can be shown wrong.
 use mathlib.Core.Path.{_≡_}
 use mathlib.Core.Bool.{Bool, true, false}
 use mathlib.Core.List.{List, [], _∷_, _++_}

@@ -1,4 +1,5 @@
--- Joining the segments of a report into records (document 01, "RACP and notifications").
+-- Joining the segments of a report into records (document 01, "RACP and notifications"): the state and its ranges, the reasons for refusing
+-- a segment, what a segment that is taken leaves, and the call.
 use mathlib.Core.Path.{_≡_}
 use mathlib.Core.Bool.{Bool}
 use mathlib.Core.List.{List}

@@ -1,4 +1,4 @@
--- Reading the record that was joined.
+-- Reading the record that was joined, by the rule for all records (document 01, "Log table, a lent buffer").
 use Rattle.coding.specs.WellFormed.{readOf}
 use Rattle.record.specs.declared.kinds.Reading.{Reading}
 use Rattle.tablet.specs.Joining.{recordIn}

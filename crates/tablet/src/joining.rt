@@ -1,4 +1,5 @@
-// Joining the segments of a report into records (document 01, "RACP and notifications").
+// Joining the segments of a report into records (document 01, "RACP and notifications"): the state, the reasons for
+// refusing a segment, what a segment that is taken leaves, and the call.
 use octets::choice::both;
 use octets::parts::put;
 ghost use mathlib.Core.Path.{_≡_};
@@ -65,7 +66,7 @@ pub fn restart() -> Joining
     }
 }
 
-// Where no segment came, nothing stands there; else at least one byte.
+// Counter and length by the phase: both 0 while no segment came (EMPTY), else a length of at least 1.
 fn begun_ok(j: Joining) -> bool
     ensures { λ r. ⌜ r ≡ pick (eqb (j .phase) 0) (Choice·both (eqb (j .counter) 0) (eqb (j .len) 0)) (leb 1 (j .len)) ⌝ }
 {

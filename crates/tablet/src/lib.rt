@@ -1,3 +1,4 @@
-// The tablet's half: notifications joined into records, and records read.
+// The tablet's half of a report (document 01, "RACP and notifications"): segments joined into records, `joining`; a
+// joined record read, `reading`.
 pub mod joining;
 pub mod reading;

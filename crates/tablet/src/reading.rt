@@ -1,4 +1,4 @@
-// Reading the record that was joined.
+// Reading the record that was joined, by the rule for all records (document 01, "Log table, a lent buffer").
 use crate::joining::Joining;
 use crate::joining::MOST_BYTES;
 use coding::reading::read;

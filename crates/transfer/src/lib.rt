@@ -1,3 +1,3 @@
-// The transfer of the log: what is asked of the Record Access Control Point, done, and the notifications
-// of a running report.
+// The notifications of a running report (document 01, "RACP and notifications"): one call, which answers a segment of
+// the report's next record, or the closing response.
 pub mod notify;

@@ -1,4 +1,5 @@
-// The notifications of a running report (document 01, "RACP and notifications").
+// A notification of the running report (document 01, "RACP and notifications"): rows 1, 2, 3 and 8, then a segment of
+// its next record, or the closing response.
 use access::codes::Code;
 use access::request::COMBINED_OPCODE;
 use access::request::REPORT_OPCODE;

@@ -1,4 +1,5 @@
-// The values of the three characteristics for our feature bits, byte for byte.
+// The values of the three characteristics (document 002, Tables 3.2, 3.4 and 3.6) for our feature bits, byte for
+// byte, and the calls that give them.
 use clock::answers::Answer;
 use clock::state::Clock;
 use held::look::next_number;
@@ -17,7 +18,7 @@ const FEATURE: [u8; 4] = [0xFF, 0xFF, 0x02, 0x04];
 // Table 3.4: RTC_Resolution, 0xFFFF for a clock of whole seconds (Section 3.2.1.2); the non-logged limit, 0.
 const PARAMETERS: [u8; 4] = [0xFF, 0xFF, 0x00, 0x00];
 
-// What reading a value that hangs on no clock answers.
+// The answer to a read of Feature or Parameters. These take no clock, so none comes back.
 pub struct Value {
     pub answer: Answer,
     // so many bytes of the output are the value
