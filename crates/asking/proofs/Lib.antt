@@ -1,3 +1,4 @@
 pub mod FoundLaws
 pub mod LeftLaws
 pub mod AccessLaws
+pub mod ReplyLaws

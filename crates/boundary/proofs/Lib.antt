@@ -1,1 +1,2 @@
 pub mod PromiseLaws
+pub mod NoImageLaws

@@ -26,11 +26,15 @@ use Rattle.clock.specs.declared.answers.Answer.the-variants.{Done, TableNotSoun
 use Rattle.clock.specs.declared.events.Event.{Event}
 use Rattle.clock.specs.declared.state.Clock.{Clock}
 use Rattle.refusals.specs.Outcome.{Outcome, doneB}
+use Rattle.service.specs.Fault.{faultOf}
 use Rattle.service.specs.Promises.{Untouched}
 use Rattle.service.specs.Start.{begun, newReaderOf}
+use Rattle.service.specs.Update.{updateOf}
 use Rattle.service.proofs.PromiseLaws.{refused-unchanged}
+use Rattle.values.specs.Value.{deviceTimeOf}
 use Rattle.values.proofs.ValueLaws as values
-use Rattle.transfer.specs.Notify.{Notice}
+use Rattle.asking.specs.Access.{accessOf}
+use Rattle.transfer.specs.Notify.{Notice, notifyOf}
 use Rattle.outcomes.specs.OfTransfer.{Silent}
 use Rattle.outcomes.proofs.AnswerLaws as transfer
 use Rattle.tablet.specs.Joining.{emptyJoining, joinOf}
@@ -44,22 +48,21 @@ use Rattle.carry.specs.Carry as carry
 use Rattle.carry.specs.declared.stamp.Carried.{Carried}
 use Rattle.carry.specs.declared.stamp.Carried.the-variants.{To, NotHeld, FaultAmong, PastRange}
 use Rattle.carry.specs.declared.stamp.Carried.the-variants as carrieds
-use Rattle.image.specs.State.{imageOf, readStateOf}
+use Rattle.image.specs.State.{imageOf, clockOf}
 use Rattle.image.specs.Joining.{joiningBytes, joiningImage, joiningIn}
 use Rattle.image.specs.Promises.{Fits}
-use Rattle.image.specs.declared.state.StateRead.{StateRead}
-use Rattle.image.specs.declared.state.StateRead.the-variants as states
 use Rattle.image.proofs.RoundTrip.{state-images}
 use Rattle.image.proofs.JoiningLaws.{joining-images}
-use Rattle.firmware.specs.Results.{refusal, resultOf, stateAfter, fromRead, unlessNoImage, Ran, ran, settledOf}
-use Rattle.firmware.specs.Start.{StartedBytes, started, shortOf, begunAt, startAt}
-use Rattle.firmware.specs.Events.{eventful, onB, secondsAt, switchesAt, disconnectAt}
-use Rattle.firmware.specs.Calls.{Called, called, unread, replied, notified, faultAt, dtcpAt, racpAt, notifyAt}
-use Rattle.firmware.specs.ValuesRead.{Shown, answered, deviceTimeAt, featureAt, parametersAt}
-use Rattle.firmware.specs.TabletCalls.{JoinedBytes, joinResult, joined, joinedBytes, joinAt, readAt, numbersAfter, carryAt, stampAfter}
+use Rattle.image.specs.Results.{refusal}
+use Rattle.server_bytes.specs.Results.{resultOf, stateAfter, Ran, ran, settledOf}
+use Rattle.server_bytes.specs.Start.{StartedBytes, started, shortOf, begunAt, startAt}
+use Rattle.server_bytes.specs.Events.{eventful, onB, secondsAt, switchesAt, disconnectAt}
+use Rattle.server_bytes.specs.Calls.{Called, called, replied, notified, faultAt, dtcpAt, racpAt, notifyAt}
+use Rattle.server_bytes.specs.ValuesRead.{answered, deviceTimeAt, featureAt, parametersAt}
+use Rattle.tablet_bytes.specs.Calls.{JoinedBytes, joinResult, joined, joinedBytes, joinAt, readAt, numbersAfter, carryAt, stampAfter}
 use Rattle.firmware.specs.Errors.{attErrorAt}
 use Rattle.boundary.specs.Promises.{RefusedUnchanged, Composes, Errors}
-use Rattle.firmware.proofs.ResultLaws.{result-done}
+use Rattle.server_bytes.proofs.ResultLaws.{result-done}
 
 -- a result below 0 is a refusal, and leaves the state
 below : (a : Answer) (n m : ℕ) → resultOf a n ≡ negsuc m → doneB a ≡ false
@@ -69,11 +72,6 @@ stays : (s : List ℕ) (a : Answer) (c : Clock) → doneB a ≡ false → stateA
 unfolding stateAfter
 stays s a c h = rw h
 
--- what holds where the state is no image, and of every clock, holds of the entry point
-each : {A : Type 0} (P : A → Type 0) (none : A) (f : Clock → A) (r : StateRead) → P none → ((c : Clock) → P (f c)) → P (fromRead none f r)
-each P none f (states.Is c) p q = q c
-each P none f states.Refused p q = p
-
 -- entry points that are lent the state alone
 abbrev RanBelow : List ℕ → ℕ → Ran → Type 0
 RanBelow s n x = x .result ≡ negsuc n → x ≡ ran (negsuc n) s
@@ -81,10 +79,6 @@ RanBelow s n x = x .result ≡ negsuc n → x ≡ ran (negsuc n) s
 event-below : (s : List ℕ) (n : ℕ) (e : Event) → RanBelow s n (eventful s e)
 unfolding settledOf
 event-below s n e h = λ i. ran (h i) (stays s (e .answer) (e .clock) (below (e .answer) 0 n h) i)
-
-events-below : (s : List ℕ) (n : ℕ) (f : Clock → Event) → RanBelow s n (unlessNoImage s (ran (refusal 2) s) (λ c. eventful s (f c)))
-events-below s n f =
-    each (RanBelow s n) (ran (refusal 2) s) (λ c. eventful s (f c)) (readStateOf s) (λ h. ap (λ (z : ℤ). ran z s) h) (λ c. event-below s n (f c))
 
 -- entry points that are lent state, table and output
 abbrev CalledBelow : List ℕ → List ℕ → List ℕ → ℕ → Called → Type 0
@@ -101,11 +95,6 @@ notice-below s t o n c u same h =
     let a = u .reply .answer in
     let no = below a _ n h in
     λ i. called (h i) (stays s a (u .reply .clock) no i) t (same no i .output)
-
-calls-below : (s t o : List ℕ) (n : ℕ) (f : Clock → Called) → ((c : Clock) → CalledBelow s t o n (f c))
-    → CalledBelow s t o n (unlessNoImage s (unread s t o) f)
-calls-below s t o n f q =
-    each (CalledBelow s t o n) (unread s t o) f (readStateOf s) (λ h. ap (λ (z : ℤ). called z s t o) h) q
 
 -- starting
 module _ (s t : List ℕ) (n : ℕ) where
@@ -180,16 +169,14 @@ unfolding secondsAt switchesAt disconnectAt faultAt dtcpAt racpAt notifyAt devic
 unchanged =
     record {
       start = start-below;
-      seconds = λ s k n. events-below s n (λ c. secondsOf c k);
-      switches = λ s a b d n. events-below s n (λ c. switchesOf c (onB a) (onB b) (onB d));
-      disconnect = λ s n. events-below s n disconnectOf;
-      fault = λ s t o n. calls-below s t o n _ (λ c. reply-below s t o n c _ (refused-unchanged .fault c t o));
-      dtcp-write = λ s t w o n. calls-below s t o n _ (λ c. reply-below s t o n c _ (refused-unchanged .time-update c t w o));
-      racp-write = λ s t w o n. calls-below s t o n _ (λ c. reply-below s t o n c _ (transfer.refused-unchanged .record-access c t w o));
-      notify = λ s t p o n. calls-below s t o n _ (λ c. notice-below s t o n c _ (transfer.refused-unchanged .notify c t p o));
-      device-time = λ s t o n.
-          each (λ (x : Shown). x .result ≡ negsuc n → x .output ≡ o) _ _ (readStateOf s) (λ h. refl)
-          (λ c. answered-below c t o n _ (values.refused-unchanged .device-time c t o));
+      seconds = λ s k n. event-below s n (secondsOf (clockOf s) k);
+      switches = λ s a b d n. event-below s n (switchesOf (clockOf s) (onB a) (onB b) (onB d));
+      disconnect = λ s n. event-below s n (disconnectOf (clockOf s));
+      fault = λ s t o n. reply-below s t o n (clockOf s) _ (refused-unchanged .fault (clockOf s) t o);
+      dtcp-write = λ s t w o n. reply-below s t o n (clockOf s) _ (refused-unchanged .time-update (clockOf s) t w o);
+      racp-write = λ s t w o n. reply-below s t o n (clockOf s) _ (transfer.refused-unchanged .record-access (clockOf s) t w o);
+      notify = λ s t p o n. notice-below s t o n (clockOf s) _ (transfer.refused-unchanged .notify (clockOf s) t p o);
+      device-time = λ s t o n. answered-below (clockOf s) t o n _ (values.refused-unchanged .device-time (clockOf s) t o);
       feature = λ o n h. values.refused-unchanged .feature o (below _ _ n h);
       parameters = λ o n h. values.refused-unchanged .parameters o (below _ _ n h);
       join = joins-below;
@@ -198,8 +185,8 @@ unchanged =
     }
 
 -- over the image of a clock that obeys its rules the clock is read
-over-image : {A : Type 0} (c : Clock) → Fits c → clockB c ≡ true → (none : A) (f : Clock → A) → unlessNoImage (imageOf c) none f ≡ f c
-over-image c h ok none f = ap (fromRead none f) (state-images .read-back c h ok)
+over-image : {A : Type 0} (c : Clock) → Fits c → clockB c ≡ true → (f : Clock → A) → f (clockOf (imageOf c)) ≡ f c
+over-image c h ok f = ap f (state-images .read-back c h ok)
 
 join-over : (j : Joining) → length (j .bytes) ≡ 45 → (n : List ℕ) → joinAt (joiningImage j) n ≡ joinedBytes (joinOf j n)
 unfolding joinAt
@@ -210,14 +197,14 @@ pub composes : Composes
 unfolding secondsAt switchesAt disconnectAt faultAt dtcpAt racpAt notifyAt deviceTimeAt
 composes =
     record {
-      seconds = λ c h ok n. over-image c h ok _ _;
-      switches = λ c h ok a b d. over-image c h ok _ _;
-      disconnect = λ c h ok. over-image c h ok _ _;
-      fault = λ c h ok t o. over-image c h ok _ _;
-      dtcp-write = λ c h ok t w o. over-image c h ok _ _;
-      racp-write = λ c h ok t w o. over-image c h ok _ _;
-      notify = λ c h ok t p o. over-image c h ok _ _;
-      device-time = λ c h ok t o. over-image c h ok _ _;
+      seconds = λ c h ok n. over-image c h ok (λ (k : Clock). eventful (imageOf c) (secondsOf k n));
+      switches = λ c h ok a b d. over-image c h ok (λ (k : Clock). eventful (imageOf c) (switchesOf k (onB a) (onB b) (onB d)));
+      disconnect = λ c h ok. over-image c h ok (λ (k : Clock). eventful (imageOf c) (disconnectOf k));
+      fault = λ c h ok t o. over-image c h ok (λ (k : Clock). replied (imageOf c) (faultOf k t o));
+      dtcp-write = λ c h ok t w o. over-image c h ok (λ (k : Clock). replied (imageOf c) (updateOf k t w o));
+      racp-write = λ c h ok t w o. over-image c h ok (λ (k : Clock). replied (imageOf c) (accessOf k t w o));
+      notify = λ c h ok t p o. over-image c h ok (λ (k : Clock). notified (imageOf c) t (notifyOf k t p o));
+      device-time = λ c h ok t o. over-image c h ok (λ (k : Clock). answered (deviceTimeOf k t o));
       join = join-over;
     }
 

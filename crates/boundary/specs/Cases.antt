@@ -26,12 +26,12 @@ use Rattle.refusals.specs.Rows.{firstFailed, wholeB, tableRows, writeRows}
 use Rattle.refusals.specs.Rows as rows
 use Rattle.service.specs.Start.{newReaderOf}
 use Rattle.service.specs.Update.{updateRows, tableAfter, settledOf, effectOf, updateOf}
-use Rattle.image.specs.State.{switchesOf as switchesIn, fieldsOf, fieldBytes, imageOf, runningIn, clockIn, imageB, readStateOf}
-use Rattle.firmware.specs.Results.{resultOf, stateAfter, Ran}
-use Rattle.firmware.specs.Results as results
-use Rattle.firmware.specs.Start.{StartedBytes, startAt}
-use Rattle.firmware.specs.Events.{switchesAt}
-use Rattle.firmware.specs.Calls.{Called, dtcpAt}
+use Rattle.image.specs.State.{switchesOf as switchesIn, fieldsOf, fieldBytes, imageOf, runningIn, clockIn, imageB, clockOf}
+use Rattle.server_bytes.specs.Results.{resultOf, stateAfter, Ran}
+use Rattle.server_bytes.specs.Results as results
+use Rattle.server_bytes.specs.Start.{StartedBytes, startAt}
+use Rattle.server_bytes.specs.Events.{switchesAt}
+use Rattle.server_bytes.specs.Calls.{Called, dtcpAt}
 
 -- so many bytes 0xAA: buffers with something in them
 abbrev pub filled : ℕ → List ℕ
@@ -44,7 +44,7 @@ start = startAt (filled 32) (filled 80)
 
 -- its switches on
 unfoldable pub switches : Ran
-unfolding start switchesAt readStateOf imageB sameB clockIn runningIn unlessBroken switchesOf clockB timeB clocks.runningB baseB zoneB dstB sourceB statusB bitsB resultOf stateAfter doneB numberOf imageOf switchesIn fieldsOf fieldBytes results.settledOf
+unfolding start switchesAt imageB sameB clockIn runningIn unlessBroken switchesOf clockB timeB clocks.runningB baseB zoneB dstB sourceB statusB bitsB resultOf stateAfter doneB numberOf imageOf switchesIn fieldsOf fieldBytes results.settledOf clockOf
 switches = switchesAt (start .state) 1 2 255
 
 -- "Propose 800,000,000 .."
@@ -52,7 +52,7 @@ abbrev pub propose : List ℕ
 propose = 0x02 ∷ 0x43 ∷ 0x00 ∷ 0x00 ∷ 0x08 ∷ 0xaf ∷ 0x2f ∷ 0x04 ∷ 0x00 ∷ 0x02 ∷ 0x01 ∷ []
 
 unfoldable pub written : Called
-unfolding start switches dtcpAt updateOf updateRows effectOf settledOf tableAfter answered firstFailed tableRows writeRows wholeB rows.runningB soundB headB sizeB startB emptyB fieldsB slots ring rowB zerosB decideOf operandOf judged proposalAt groundsOf flagIf epochB rangeB lowerB unrealisticB secondsApart gradeOf localB clockGrade acceptedOf statusAfter alignedAfter accuracyOf loggedB updateRecord responseBytes appendOf steps placeOf slotOf headerAfter bytesOf updateBytes over readStateOf imageB sameB clockIn runningIn clockB timeB clocks.runningB baseB zoneB dstB sourceB statusB bitsB resultOf stateAfter doneB numberOf imageOf switchesIn fieldsOf fieldBytes
+unfolding start switches dtcpAt updateOf updateRows effectOf settledOf tableAfter answered firstFailed tableRows writeRows wholeB rows.runningB soundB headB sizeB startB emptyB fieldsB slots ring rowB zerosB decideOf operandOf judged proposalAt groundsOf flagIf epochB rangeB lowerB unrealisticB secondsApart gradeOf localB clockGrade acceptedOf statusAfter alignedAfter accuracyOf loggedB updateRecord responseBytes appendOf steps placeOf slotOf headerAfter bytesOf updateBytes over imageB sameB clockIn runningIn clockB timeB clocks.runningB baseB zoneB dstB sourceB statusB bitsB resultOf stateAfter doneB numberOf imageOf switchesIn fieldsOf fieldBytes clockOf
 written = dtcpAt (switches .state) (start .table) propose (filled 20)
 
 pub record Computed : Type 0 where

@@ -3,30 +3,35 @@ use mathlib.Core.Path.{_≡_}
 use mathlib.Core.Bool.{true}
 use mathlib.Core.List.{List}
 use Prim.Native.Nat.{ℕ}
+use lib.Dec.{eqb}
 use lib.IntN.{ℤ, pos, negsuc}
 use lib.ListN.{length, replicate}
+use Rattle.octets.specs.Choice.{pick}
+use Rattle.table.specs.Table.{soundB}
 use Rattle.clock.specs.Answers.{numberOf, attErrorOf}
 use Rattle.clock.specs.Events.{secondsOf, switchesOf, disconnectOf}
 use Rattle.clock.specs.Rules.{clockB}
 use Rattle.clock.specs.declared.answers.Answer.{Answer}
 use Rattle.clock.specs.declared.state.Clock.{Clock}
 use Rattle.service.specs.Fault.{faultOf}
+use Rattle.service.specs.Start.{newReaderOf}
 use Rattle.service.specs.Update.{updateOf}
 use Rattle.values.specs.Value.{deviceTimeOf}
 use Rattle.asking.specs.Access.{accessOf}
 use Rattle.transfer.specs.Notify.{notifyOf}
 use Rattle.tablet.specs.Joining.{joinOf, mostBytes}
 use Rattle.tablet.specs.declared.joining.Joining.{Joining}
-use Rattle.image.specs.State.{imageOf}
+use Rattle.image.specs.State.{stateBytes, imageOf, clockIn, imageB}
 use Rattle.image.specs.Joining.{joiningImage}
 use Rattle.image.specs.Promises.{Fits}
-use Rattle.firmware.specs.Start.{started, startAt}
-use Rattle.firmware.specs.Events.{eventful, onB, secondsAt, switchesAt, disconnectAt}
-use Rattle.firmware.specs.Calls.{called, replied, notified, faultAt, dtcpAt, racpAt, notifyAt}
-use Rattle.firmware.specs.ValuesRead.{answered, deviceTimeAt, featureAt, parametersAt}
-use Rattle.firmware.specs.TabletCalls.{joinedBytes, joinAt, readAt, carryAt}
+use Rattle.image.specs.Results.{refusal}
+use Rattle.server_bytes.specs.Results.{ran}
+use Rattle.server_bytes.specs.Start.{started, shortOf, begunAt, startAt}
+use Rattle.server_bytes.specs.Events.{eventful, onB, secondsAt, switchesAt, disconnectAt}
+use Rattle.server_bytes.specs.Calls.{Called, called, replied, notified, faultAt, dtcpAt, racpAt, notifyAt}
+use Rattle.server_bytes.specs.ValuesRead.{shown, answered, deviceTimeAt, featureAt, parametersAt}
+use Rattle.tablet_bytes.specs.Calls.{joinedBytes, joinAt, readAt, carryAt}
 use Rattle.firmware.specs.Errors.{attErrorAt}
-use Rattle.firmware.specs.Results.{ran}
 
 -- "A refusal leaves state, log and output untouched": where the result is below 0, all that is lent is as it was; "10 empties the joining
 -- state": every byte of it is 0.
@@ -45,6 +50,32 @@ pub record RefusedUnchanged : Type 0 where
   pub join : (j b : List ℕ) (n : ℕ) → joinAt j b .result ≡ negsuc n → joinAt j b .joining ≡ replicate (length j) 0
   pub read : (b f : List ℕ) (n : ℕ) → readAt b f .result ≡ negsuc n → readAt b f .fields ≡ f
   pub carry : (stamp q : ℕ) (t : List ℕ) (z : ℤ) (n : ℕ) → carryAt stamp q t z .result ≡ negsuc n → carryAt stamp q t z .carried ≡ z
+
+-- "another length or encoding is refusal 2": what is answered where the state is no image, and else the call on the clock that stands there
+abbrev pub unlessNoImage : {A : Type 0} → List ℕ → A → (Clock → A) → A
+unlessNoImage s none f = pick (imageB s) (f (clockIn s)) none
+
+-- a call with a table tests that first: 1, then 2
+unfoldable pub noImage : List ℕ → ℤ
+noImage t = refusal (pick (soundB t) 2 1)
+
+-- nothing is written
+abbrev pub unread : List ℕ → List ℕ → List ℕ → Called
+unread s t o = called (noImage t) s t o
+
+-- A state that is no image is refused with 2, after 1 where a table is lent, and all that is lent is as it was; any other is the call by
+-- value on the clock that stands in it, whether that obeys its rules or not. Of `dts_start` only the state's length is asked for.
+pub record NoImage : Type 0 where
+  pub start : (s t : List ℕ) → startAt s t ≡ pick (eqb (length s) stateBytes) (begunAt s (newReaderOf t)) (started (shortOf (length t)) s t)
+  pub seconds : (s : List ℕ) (n : ℕ) → secondsAt s n ≡ unlessNoImage s (ran (refusal 2) s) (λ c. eventful s (secondsOf c n))
+  pub switches : (s : List ℕ) (dtcp racp log : ℕ)
+      → switchesAt s dtcp racp log ≡ unlessNoImage s (ran (refusal 2) s) (λ c. eventful s (switchesOf c (onB dtcp) (onB racp) (onB log)))
+  pub disconnect : (s : List ℕ) → disconnectAt s ≡ unlessNoImage s (ran (refusal 2) s) (λ c. eventful s (disconnectOf c))
+  pub fault : (s t o : List ℕ) → faultAt s t o ≡ unlessNoImage s (unread s t o) (λ c. replied s (faultOf c t o))
+  pub dtcp-write : (s t w o : List ℕ) → dtcpAt s t w o ≡ unlessNoImage s (unread s t o) (λ c. replied s (updateOf c t w o))
+  pub racp-write : (s t w o : List ℕ) → racpAt s t w o ≡ unlessNoImage s (unread s t o) (λ c. replied s (accessOf c t w o))
+  pub notify : (s t : List ℕ) (p : ℕ) (o : List ℕ) → notifyAt s t p o ≡ unlessNoImage s (unread s t o) (λ c. notified s t (notifyOf c t p o))
+  pub device-time : (s t o : List ℕ) → deviceTimeAt s t o ≡ unlessNoImage s (shown (noImage t) o) (λ c. answered (deviceTimeOf c t o))
 
 -- Over the image of a clock that obeys its rules, with fields that fit their types, an entry point is the call by value, and the state
 -- becomes the image of its clock after; over a joining state's image likewise.

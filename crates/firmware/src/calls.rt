@@ -1,28 +1,17 @@
-// The calls that take the log table. Each refuses a state that is no image: 2, after 1.
-use crate::results::no_image;
-use crate::results::settle;
-use crate::results::written;
-use asking::record_access::record_access;
-use image::state::StateRead;
-use image::state::read_state;
-use service::fault::fault;
-use service::time_update::time_update;
-use transfer::notify::notify;
+// The calls that take the log table. A state that is no image is a clock that breaks a rule: 2, after 1.
+use server_bytes::calls::dtcp_at;
+use server_bytes::calls::fault_at;
+use server_bytes::calls::notify_at;
+use server_bytes::calls::racp_at;
 ghost use mathlib.Core.Path.{_≡_};
-ghost use Rattle.firmware.specs.Calls.{called, faultAt, dtcpAt, racpAt, notifyAt};
+ghost use Rattle.server_bytes.specs.Calls.{called, faultAt, dtcpAt, racpAt, notifyAt};
 
 // A time fault. Refuses: 1, 2 whole, 3. Answers the length of a running report's last response, or 0.
 #[no_mangle]
 pub extern "C" fn dts_fault(state: &mut [u8], table: &mut [u8], out: &mut [u8]) -> i32
     ensures { λ r. ⌜ called r (now (state .exit)) (now (table .exit)) (now (out .exit)) ≡ faultAt (now (state .entry)) (now (table .entry)) (now (out .entry)) ⌝ }
 {
-    let StateRead::Is(c) = read_state(state) else {
-        return no_image(table);
-    };
-    let reply = fault(c, table, out);
-    let answer = reply.answer;
-    let faulted = reply.clock;
-    settle(state, answer, faulted, reply.len)
+    fault_at(state, table, out)
 }
 
 // A write to the Device Time Control Point. Refuses: 1, 2 whole, 3, 4, 5, 6. Answers the response's length.
@@ -35,13 +24,7 @@ pub extern "C" fn dts_dtcp_write(
 ) -> i32
     ensures { λ r. ⌜ called r (now (state .exit)) (now (table .exit)) (now (out .exit)) ≡ dtcpAt (now (state .entry)) (now (table .entry)) (now (write .entry)) (now (out .entry)) ⌝ }
 {
-    let StateRead::Is(c) = read_state(state) else {
-        return no_image(table);
-    };
-    let reply = time_update(c, table, write, out);
-    let answer = reply.answer;
-    let updated = reply.clock;
-    settle(state, answer, updated, reply.len)
+    dtcp_at(state, table, write, out)
 }
 
 // A write to the Record Access Control Point. Refuses: 1, 2 whole, 3, 4, 5, 6. Answers the response's length;
@@ -55,13 +38,7 @@ pub extern "C" fn dts_racp_write(
 ) -> i32
     ensures { λ r. ⌜ called r (now (state .exit)) (now (table .entry)) (now (out .exit)) ≡ racpAt (now (state .entry)) (now (table .entry)) (now (write .entry)) (now (out .entry)) ⌝ }
 {
-    let StateRead::Is(c) = read_state(state) else {
-        return no_image(table);
-    };
-    let reply = record_access(c, table, write, out);
-    let answer = reply.answer;
-    let accessed = reply.clock;
-    settle(state, answer, accessed, reply.len)
+    racp_at(state, table, write, out)
 }
 
 // The next notification of the running report, of up to p bytes. Refuses: 1, 2 whole, 3, 8. Answers its
@@ -70,12 +47,5 @@ pub extern "C" fn dts_racp_write(
 pub extern "C" fn dts_notify(state: &mut [u8], table: &[u8], p: u32, out: &mut [u8]) -> i32
     ensures { λ r. ⌜ called r (now (state .exit)) (now (table .entry)) (now (out .exit)) ≡ notifyAt (now (state .entry)) (now (table .entry)) p (now (out .entry)) ⌝ }
 {
-    let StateRead::Is(c) = read_state(state) else {
-        return no_image(table);
-    };
-    let notified = notify(c, table, p, out);
-    let answer = notified.answer;
-    let clock = notified.clock;
-    let len = written(notified.closes, notified.len);
-    settle(state, answer, clock, len)
+    notify_at(state, table, p, out)
 }

@@ -1,29 +1,9 @@
 // The tablet's calls: joining, reading, carrying.
-use carry::stamp::Carried;
-use carry::stamp::carry;
-use coding::reading::read;
-use image::joining::JOINING_BYTES;
-use image::joining::joining_image;
-use image::joining::joining_in;
-use octets::parts::clear;
-use octets::parts::copy;
-use record::kinds::Reading;
-use record::kinds::Record;
-use tablet::joining::Answer;
-use tablet::joining::join;
+use tablet_bytes::calls::carry_at;
+use tablet_bytes::calls::join_at;
+use tablet_bytes::calls::read_at;
 ghost use mathlib.Core.Path.{_≡_};
-ghost use Rattle.firmware.specs.TabletCalls.{joinResult, fieldsIn, joined, joinAt, reading, readAt, carrying, carryAt};
-
-// 0 where more is to come, the length of a whole record, or minus 10.
-fn join_result(answer: Answer, len: u8) -> i32
-    ensures { λ r. ⌜ r ≡ joinResult answer len ⌝ }
-{
-    match answer {
-        Answer::More => 0,
-        Answer::Whole => len as i32,
-        Answer::Refused => -10,
-    }
-}
+ghost use Rattle.tablet_bytes.specs.Calls.{joined, joinAt, reading, readAt, carrying, carryAt};
 
 // One notification joined. Refuses: 10, another length than 48 bytes too; then every byte lent becomes 0.
 // Answers 0 where more is to come, else the length of the whole record that stands there.
@@ -31,51 +11,7 @@ fn join_result(answer: Answer, len: u8) -> i32
 pub extern "C" fn dts_join(joining: &mut [u8], notification: &[u8]) -> i32
     ensures { λ r. ⌜ joined r (now (joining .exit)) ≡ joinAt (now (joining .entry)) (now (notification .entry)) ⌝ }
 {
-    if joining.len() != JOINING_BYTES {
-        clear(joining);
-        return -10;
-    }
-    let outcome = join(joining_in(joining), notification);
-    let answer = outcome.answer;
-    let after = outcome.joining;
-    let image = joining_image(after);
-    copy(joining, &image);
-    join_result(answer, after.len)
-}
-
-// Sequence number, type, status, old status, fault count, zone (its byte), DST, source, accuracy, base, old
-// base; 0 where the type has none.
-fn fields_in(r: Record) -> [u32; 11]
-    ensures { λ f. ⌜ f ≡ fieldsIn r ⌝ }
-{
-    match r {
-        Record::TimeUpdate(u) => [
-            u.sequence as u32,
-            1,
-            u.status as u32,
-            u.oldstatus as u32,
-            u.faults as u32,
-            u.zone as u32,
-            u.dst as u32,
-            u.source as u32,
-            u.accuracy as u32,
-            u.base,
-            u.oldbase,
-        ],
-        Record::TimeFault(f) => [
-            f.sequence as u32,
-            0,
-            f.status as u32,
-            f.oldstatus as u32,
-            f.faults as u32,
-            0,
-            0,
-            0,
-            0,
-            f.base,
-            f.oldbase,
-        ],
-    }
+    join_at(joining, notification)
 }
 
 // The record that bytes are. Refuses: 11.
@@ -83,11 +19,7 @@ fn fields_in(r: Record) -> [u32; 11]
 pub extern "C" fn dts_read(bytes: &[u8], fields: &mut [u32; 11]) -> i32
     ensures { λ r. ⌜ reading r (now (fields .exit)) ≡ readAt (now (bytes .entry)) (now (fields .entry)) ⌝ }
 {
-    let Reading::Is(r) = read(bytes) else {
-        return -11;
-    };
-    *fields = fields_in(r);
-    0
+    read_at(bytes, fields)
 }
 
 // A stamp carried over the records logged after it. Refuses: 1, 12, 13; never 14 (`carry::stamp::carry`).
@@ -95,14 +27,5 @@ pub extern "C" fn dts_read(bytes: &[u8], fields: &mut [u32; 11]) -> i32
 pub extern "C" fn dts_carry(stamp: u32, q: u16, table: &[u8], carried: &mut i64) -> i32
     ensures { λ r. ⌜ carrying r (now (carried .exit)) ≡ carryAt stamp q (now (table .entry)) (now (carried .entry)) ⌝ }
 {
-    match carry(stamp, q, table) {
-        Carried::To(to) => {
-            *carried = to;
-            0
-        }
-        Carried::TableNotSound => -1,
-        Carried::NotHeld => -12,
-        Carried::FaultAmong => -13,
-        Carried::PastRange => -14,
-    }
+    carry_at(stamp, q, table, carried)
 }

@@ -20,9 +20,8 @@ use Rattle.clock.proofs.RuleLaws.{clock-reads, running-reads}
 use Rattle.octets.specs.Parts.{sameB}
 use Rattle.image.specs.State.{stateBytes, switchesOf, boundsOf, unsentOf, fieldsOf, fieldBytes, imageOf, filterIn, leftIn, runningIn, clockIn, imageB}
 use Rattle.image.specs.Promises.{FilterFits, LeftFits, RunningFits, Fits, StateImages}
-use Rattle.image.specs.declared.state.StateRead.the-variants.{Is}
 use Rattle.octets.proofs.SameLaws.{same-makes}
-use Rattle.image.proofs.StateLaws.{is-image, image-back}
+use Rattle.image.proofs.StateLaws.{of-image, image-back, no-image}
 
 -- a number's two bytes joined again
 abbrev joined : ℕ → ℕ
@@ -104,6 +103,7 @@ state-images =
     record {
       size = image-long;
       written-back = image-back;
-      read-back = λ c h ok. is-image (imageOf c) (image-is c h ok) ∙ ap Is (clock-back c h ok);
+      read-back = λ c h ok. of-image (imageOf c) (image-is c h ok) ∙ clock-back c h ok;
       is-image = image-is;
+      no-image = no-image;
     }

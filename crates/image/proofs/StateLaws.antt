@@ -4,23 +4,24 @@ use mathlib.Core.Path.{_≡_, refl, sym, ap, _∙_}
 use mathlib.Core.Bool.{Bool, true, false}
 use mathlib.Core.List.{List, [], _∷_, _++_}
 use Prim.Native.Nat.{ℕ}
-use native.Mathlib.Omega.{arith}
 use borrow.Author.Tests.{eq-eqb, ne-eqb, eqb-true}
 use lib.Dec.{eqb}
 use lib.ListN.{length}
-use Rattle.octets.specs.Choice.{pick}
 use Rattle.octets.specs.Numbers.{bytes2, bytes4}
-use Rattle.octets.proofs.Tests.{both-yes, both-no, both-reads}
+use Rattle.octets.proofs.Tests.{both-yes, both-no, both-reads, clash}
+use Rattle.rules.specs.Rules.{baseB}
+use Rattle.clock.specs.Events.{withBase}
+use Rattle.clock.specs.Rules.{clockB}
+use Rattle.clock.specs.State.{newReader}
 use Rattle.clock.specs.declared.state.Clock.{Clock}
 use Rattle.clock.specs.declared.state.Left.the-variants.{Nothing}
 use Rattle.clock.specs.declared.state.Report.{Report}
 use Rattle.clock.specs.declared.state.Running.the-variants.{Idle, Reporting}
 use Rattle.octets.specs.Parts.{sameB}
-use Rattle.image.specs.State.{stateBytes, switchesOf, bounds, boundsOf, unsentOf, fields, fieldsOf, fieldBytes, imageOf, clockIn, imageB, readStateOf}
+use Rattle.image.specs.State.{stateBytes, switchesOf, bounds, boundsOf, unsentOf, fields, fieldsOf, fieldBytes, imageOf, clockIn, imageB, noClock, clockOf}
 use Rattle.image.specs.declared.state.Bounds.{Bounds}
 use Rattle.image.specs.declared.state.Fields.{Fields}
 use Rattle.image.specs.declared.state.Unsent.{Unsent}
-use Rattle.image.specs.declared.state.StateRead.the-variants.{Is, Refused}
 use Rattle.octets.proofs.SameLaws.{same-reads}
 
 pub image-laid : (c : Clock) {f : Fields} {w : ℕ} → f ≡ fieldsOf (c .running) → w ≡ switchesOf (c .switches .dtcp) (c .switches .racp) (c .switches .log)
@@ -44,19 +45,19 @@ unfolding fieldsOf
 fields-report r e d = rw (e, d)
 
 -- not an image, and an image
-no-image : (s : List ℕ) → imageB s ≡ false → readStateOf s ≡ Refused
-unfolding readStateOf
-no-image s h = rw h
+pub of-none : (s : List ℕ) → imageB s ≡ false → clockOf s ≡ noClock
+unfolding clockOf
+of-none s h = rw h
 
-pub is-image : (s : List ℕ) → imageB s ≡ true → readStateOf s ≡ Is (clockIn s)
-unfolding readStateOf
-is-image s h = rw h
+pub of-image : (s : List ℕ) → imageB s ≡ true → clockOf s ≡ clockIn s
+unfolding clockOf
+of-image s h = rw h
 
--- the answers of `read_state`, with what it read and wrote on the way
+-- the answers of `clock_of`, with what it read and wrote on the way
 module _ (s : List ℕ) where
-  pub read-short : (length s ≡ stateBytes → ⊥) → readStateOf s ≡ Refused
+  pub of-short : (length s ≡ stateBytes → ⊥) → clockOf s ≡ noClock
   unfolding imageB
-  read-short h = no-image s (both-no (eqb (length s) stateBytes) _ (ne-eqb (length s) stateBytes h))
+  of-short h = of-none s (both-no (eqb (length s) stateBytes) _ (ne-eqb (length s) stateBytes h))
 
   module _ {c : Clock} {image : List ℕ} {same : Bool}
       (size : length s ≡ stateBytes)
@@ -68,11 +69,11 @@ module _ (s : List ℕ) where
       unfolding imageB
       same-told = both-yes (eq-eqb (length s) stateBytes size) ∙ ap (sameB s) (ap imageOf (sym read) ∙ sym written) ∙ sym told
 
-      pub read-differs : same ≡ false → readStateOf s ≡ Refused
-      read-differs h = no-image s (same-told ∙ h)
+      pub of-other : same ≡ false → clockOf s ≡ noClock
+      of-other h = of-none s (same-told ∙ h)
 
-      pub read-image : same ≡ true → readStateOf s ≡ Is c
-      read-image h = is-image s (same-told ∙ h) ∙ ap Is (sym read)
+      pub of-same : same ≡ true → clockOf s ≡ c
+      of-same h = of-image s (same-told ∙ h) ∙ sym read
 
 -- what it is to be an image
 pub image-size : (s : List ℕ) → imageB s ≡ true → length s ≡ stateBytes
@@ -83,11 +84,20 @@ pub image-back : (s : List ℕ) → imageB s ≡ true → imageOf (clockIn s) �
 unfolding imageB
 image-back s h = sym (same-reads s (imageOf (clockIn s)) (both-reads (eqb (length s) stateBytes) _ h .1))
 
--- bytes that were read as a clock are an image's many
-pub read-size : (s : List ℕ) {c : Clock} → readStateOf s ≡ Is c → length s ≡ stateBytes
-unfolding readStateOf
-read-size s h = go (imageB s) refl h
+-- the clock that stands for no image breaks a rule, so that one that obeys them was read from an image
+none-broken : clockB noClock ≡ false
+unfolding clockB noClock withBase newReader baseB
+none-broken = refl
+
+pub no-image : (s : List ℕ) → imageB s ≡ false → clockB (clockOf s) ≡ false
+no-image s h = ap clockB (of-none s h) ∙ none-broken
+
+pub obeys-image : (s : List ℕ) → clockB (clockOf s) ≡ true → imageB s ≡ true
+obeys-image s h = go (imageB s) refl
   where
-    go : (b : Bool) {c : Clock} → imageB s ≡ b → pick b (Is (clockIn s)) Refused ≡ Is c → length s ≡ stateBytes
-    go true e d = image-size s e
-    go false e d = let z : _≡_ {A = ℕ} 0 1 = cc in absurd (omega arith)
+    go : (b : Bool) → imageB s ≡ b → imageB s ≡ true
+    go true e = e
+    go false e = absurd (clash (clockB (clockOf s)) h (no-image s e))
+
+pub obeys-size : (s : List ℕ) → clockB (clockOf s) ≡ true → length s ≡ stateBytes
+obeys-size s h = image-size s (obeys-image s h)

@@ -1,3 +1,4 @@
+pub mod Results
 pub mod State
 pub mod Joining
 pub mod Promises

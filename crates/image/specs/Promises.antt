@@ -1,6 +1,6 @@
 -- What is promised of the images beyond each call's own equation.
 use mathlib.Core.Path.{_≡_}
-use mathlib.Core.Bool.{true}
+use mathlib.Core.Bool.{true, false}
 use mathlib.Core.List.{List}
 use Prim.Native.Nat.{ℕ, _<_}
 use lib.ListN.{length, replicate}
@@ -14,9 +14,8 @@ use Rattle.clock.specs.declared.state.Running.{Running}
 use Rattle.clock.specs.declared.state.Running.the-variants.{Idle, Reporting}
 use Rattle.tablet.specs.Joining.{mostBytes, emptyJoining}
 use Rattle.tablet.specs.declared.joining.Joining.{Joining}
-use Rattle.image.specs.State.{stateBytes, imageOf, clockIn, imageB, readStateOf}
+use Rattle.image.specs.State.{stateBytes, imageOf, clockIn, imageB, clockOf}
 use Rattle.image.specs.Joining.{joiningBytes, joiningImage, joiningIn}
-use Rattle.image.specs.declared.state.StateRead.the-variants.{Is}
 
 -- Each field fits its width. The types in the code say so of every clock there.
 abbrev pub FilterFits : Filter → Type 0
@@ -43,12 +42,13 @@ pub record Fits (c : Clock) : Type 0 where
   pub running : RunningFits (c .running)
 
 -- "One encoding per state": bytes that are an image are the image of the clock that they stand for, and of no other clock that obeys its
--- rules; a clock that does is read back from its image, which is 32 bytes.
+-- rules; a clock that does is read back from its image, which is 32 bytes. Bytes that are no image stand for a clock that breaks a rule.
 pub record StateImages : Type 0 where
   pub size : (c : Clock) → length (imageOf c) ≡ stateBytes
   pub written-back : (s : List ℕ) → imageB s ≡ true → imageOf (clockIn s) ≡ s
-  pub read-back : (c : Clock) → Fits c → clockB c ≡ true → readStateOf (imageOf c) ≡ Is c
+  pub read-back : (c : Clock) → Fits c → clockB c ≡ true → clockOf (imageOf c) ≡ c
   pub is-image : (c : Clock) → Fits c → clockB c ≡ true → imageB (imageOf c) ≡ true
+  pub no-image : (s : List ℕ) → imageB s ≡ false → clockB (clockOf s) ≡ false
 
 -- A joining state, within its ranges or not, and its image of 48 bytes stand for each other; "all zero is the empty state".
 pub record JoiningImages : Type 0 where

@@ -9,6 +9,8 @@ use Rattle.octets.specs.Numbers.{at, le16, le32, bytes2, bytes4}
 use Rattle.octets.specs.Parts.{sameB}
 use Rattle.filter.specs.declared.request.Filter.{Filter}
 use Rattle.filter.specs.declared.request.Filter.the-variants.{All, AtMost, AtLeast, Range, First, Last}
+use Rattle.clock.specs.Events.{withBase}
+use Rattle.clock.specs.State.{newReader}
 use Rattle.clock.specs.declared.state.Clock.{Clock}
 use Rattle.clock.specs.declared.state.Left.{Left}
 use Rattle.clock.specs.declared.state.Left.the-variants.{Nothing, From}
@@ -16,8 +18,6 @@ use Rattle.clock.specs.declared.state.Running.{Running}
 use Rattle.clock.specs.declared.state.Running.the-variants.{Idle, Reporting}
 use Rattle.image.specs.declared.state.Bounds.{Bounds}
 use Rattle.image.specs.declared.state.Fields.{Fields}
-use Rattle.image.specs.declared.state.StateRead.{StateRead}
-use Rattle.image.specs.declared.state.StateRead.the-variants.{Is, Refused}
 use Rattle.image.specs.declared.state.Unsent.{Unsent}
 
 abbrev pub stateBytes : ℕ
@@ -129,5 +129,10 @@ clockIn s =
 unfoldable pub imageB : List ℕ → Bool
 imageB s = both (eqb (length s) stateBytes) (sameB s (imageOf (clockIn s)))
 
-unfoldable pub readStateOf : List ℕ → StateRead
-readStateOf s = pick (imageB s) (Is (clockIn s)) Refused
+-- "another length or encoding is refusal 2": bytes that are no image stand for a clock that breaks a rule
+unfoldable pub noClock : Clock
+noClock = withBase newReader 0
+
+-- the clock that bytes stand for
+unfoldable pub clockOf : List ℕ → Clock
+clockOf s = pick (imageB s) (clockIn s) noClock

@@ -5,6 +5,7 @@ use clock::state::Report;
 use clock::state::Running;
 use clock::state::Switches;
 use clock::state::Time;
+use clock::state::new_reader;
 use filter::request::Filter;
 use octets::numbers::get16;
 use octets::numbers::get32;
@@ -12,16 +13,10 @@ ghost use mathlib.Core.Path.{_≡_};
 ghost use Prim.Native.Nat.{_≤_};
 ghost use lib.ListN.{length};
 ghost use Rattle.octets.specs.Parts.{sameB};
-ghost use Rattle.image.specs.State.{weightIf, switchesOf, bounds, boundsOf, unsentOf, fieldsOf, imageOf, filterIn, leftIn, runningIn, clockIn, readStateOf};
+ghost use Rattle.image.specs.State.{weightIf, switchesOf, bounds, boundsOf, unsentOf, fieldsOf, imageOf, filterIn, leftIn, runningIn, clockIn, noClock, clockOf};
 
 // The image's length.
 pub const STATE_BYTES: usize = 32;
-
-// What bytes stand for: a clock, or nothing, where they are no image.
-pub enum StateRead {
-    Is(Clock),
-    Refused,
-}
 
 // A filter's operator and its values; 0 for a value that it has not.
 pub struct Bounds {
@@ -245,18 +240,27 @@ fn same(a: &[u8], b: &[u8]) -> bool
     true
 }
 
-// The clock that an image stands for. Refuses bytes that are not what that clock is written as, and any
-// other length than 32: they are no image.
-pub fn read_state(s: &[u8]) -> StateRead
-    ensures { λ r. ⌜ r ≡ readStateOf (now (s .entry)) ⌝ }
+// What bytes that are no image stand for: a new reader whose Base_Time is 0, which breaks a rule.
+fn no_clock() -> Clock
+    ensures { λ r. ⌜ r ≡ noClock ⌝ }
+{
+    let mut c = new_reader();
+    c.time.base = 0;
+    c
+}
+
+// The clock that an image stands for. Bytes that are not what that clock is written as, and any other
+// length than 32, are no image: they stand for a clock that breaks a rule, so that every call refuses it.
+pub fn clock_of(s: &[u8]) -> Clock
+    ensures { λ r. ⌜ r ≡ clockOf (now (s .entry)) ⌝ }
 {
     if s.len() != STATE_BYTES {
-        return StateRead::Refused;
+        return no_clock();
     }
     let c = clock_in(s);
     let image = image_of(c);
     if !same(s, &image) {
-        return StateRead::Refused;
+        return no_clock();
     }
-    StateRead::Is(c)
+    c
 }

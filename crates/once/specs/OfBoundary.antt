@@ -33,8 +33,8 @@ use Rattle.firmware.proofs.errors.dts_att_error.Kinds as att-error-kinds
 use Rattle.firmware.proofs.errors.dts_att_error.Reads as att-error-reads
 use Rattle.image.proofs.state.image_of.Kinds as image-of-kinds
 use Rattle.image.proofs.state.image_of.Reads as image-of-reads
-use Rattle.image.proofs.state.read_state.Kinds as read-state-kinds
-use Rattle.image.proofs.state.read_state.Reads as read-state-reads
+use Rattle.image.proofs.state.clock_of.Kinds as clock-of-kinds
+use Rattle.image.proofs.state.clock_of.Reads as clock-of-reads
 use Rattle.image.proofs.joining.joining_image.Kinds as joining-image-kinds
 use Rattle.image.proofs.joining.joining_image.Reads as joining-image-reads
 use Rattle.image.proofs.joining.joining_in.Kinds as joining-in-kinds
@@ -57,6 +57,6 @@ pub record OneOutcome : Type 0 where
   pub carry : Door carry-kinds.ps carry-kinds.r carry-reads.Pre carry-reads.Post
   pub att-error : Door att-error-kinds.ps att-error-kinds.r att-error-reads.Pre att-error-reads.Post
   pub image-of : Only image-of-kinds.ps image-of-kinds.r image-of-reads.Pre image-of-reads.Post
-  pub read-state : Only read-state-kinds.ps read-state-kinds.r read-state-reads.Pre read-state-reads.Post
+  pub clock-of : Only clock-of-kinds.ps clock-of-kinds.r clock-of-reads.Pre clock-of-reads.Post
   pub joining-image : Only joining-image-kinds.ps joining-image-kinds.r joining-image-reads.Pre joining-image-reads.Post
   pub joining-in : Only joining-in-kinds.ps joining-in-kinds.r joining-in-reads.Pre joining-in-reads.Post

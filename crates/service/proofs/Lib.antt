@@ -3,3 +3,4 @@ pub mod BeginLaws
 pub mod UpdateLaws
 pub mod PromiseLaws
 pub mod ReachLaws
+pub mod ReplyLaws

@@ -29,7 +29,7 @@ returns c =
       carry = (λ κs a. tt, λ κs a x y u v h p q. split (λ (w : CarriedTo). w .result) (λ w. (tt, (tt, (tt, (w .carried, tt))))) p q);
       att-error = (λ κs a. tt, λ κs a x y u v h p q. (p ∙ sym q, refl));
       image-of = λ κs a x y u v h p q. (p ∙ sym q, refl);
-      read-state = λ κs a x y u v h p q. (p ∙ sym q, refl);
+      clock-of = λ κs a x y u v h p q. (p ∙ sym q, refl);
       joining-image = λ κs a x y u v h p q. (p ∙ sym q, refl);
       joining-in = λ κs a x y u v h p q. (p ∙ sym q, refl);
     }

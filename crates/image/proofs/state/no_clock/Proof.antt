@@ -1,0 +1,17 @@
+-- A new reader with another Base_Time.
+-- Assumes nothing.
+use Rattle.clock.specs.Events.{withBase}
+use Rattle.image.specs.State.{noClock}
+use borrow.Author.Needs.{needs}
+use Rattle.image.proofs.state.no_clock.Statement.{statement}
+use Rattle.image.proofs.state.no_clock.Tie as tie
+
+new-reader-requires : tie.Need-new-reader-requires
+new-reader-requires c κs = search needs
+
+returns : tie.Need-returns
+unfolding noClock withBase
+returns c = rw (c .new-reader .ensures)
+
+pub no-clock-spec : {M : Type 1} → statement M
+no-clock-spec = tie.close (tie.spec new-reader-requires returns)

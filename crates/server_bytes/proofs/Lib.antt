@@ -1,0 +1,4 @@
+pub mod ResultLaws
+pub mod CallLaws
+pub mod ValueLaws
+pub mod StartLaws

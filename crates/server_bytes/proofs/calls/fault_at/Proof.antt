@@ -1,0 +1,45 @@
+-- `faultOf` of the clock that the state stands for, and the state settled by its reply.
+-- Assumes nothing.
+use mir.Facts.{toZ-ofZ}
+use Rattle.clock.specs.declared.state.Clock.{Clock}
+use Rattle.service.specs.Fault.{faultOf}
+use Rattle.service.proofs.ReplyLaws.{fault-replies}
+use Rattle.server_bytes.specs.Calls.{faultAt}
+use Rattle.server_bytes.proofs.CallLaws.{reply-sized, reply-settled}
+use borrow.Author.Needs.{needs}
+use Rattle.server_bytes.proofs.calls.fault_at.Statement.{statement}
+use Rattle.server_bytes.proofs.calls.fault_at.Tie as tie
+
+clock-of-requires : tie.Need-clock-of-requires
+clock-of-requires c κs = search needs
+
+fault-requires : tie.Need-fault-requires
+fault-requires c κs = search needs
+
+settle-requires : tie.Need-settle-requires
+settle-requires c κs =
+    let told = c .before .before .before .before .before in
+    let read = told .before .before .before in
+    let a = read .before .before .before .before .before .args in
+    reply-sized (a .state .now) (read .clock-of .ensures) (λ (k : Clock). faultOf k (a .table .now) (a .out .now)) (told .fault .ensures) (fault-replies (a .table .now) (a .out .now))
+
+same-length : tie.Need-same-length
+same-length c = search needs
+
+same-length-2 : tie.Need-same-length-2
+same-length-2 c = search needs
+
+same-length-3 : tie.Need-same-length-3
+same-length-3 c = search needs
+
+returns : tie.Need-returns
+unfolding faultAt
+returns c =
+    let settled = c .before .before in
+    let told = settled .before .before .before .before .before .before in
+    let read = told .before .before .before in
+    let a = read .before .before .before .before .before .args in
+    reply-settled (a .state .now) (read .clock-of .ensures) (λ (k : Clock). faultOf k (a .table .now) (a .out .now)) (told .fault .ensures) (toZ-ofZ (record { sfits = settled .settle .ok })) (settled .settle .ensures)
+
+pub fault-at-spec : {M : Type 1} → statement M
+fault-at-spec = tie.close (tie.spec clock-of-requires fault-requires settle-requires same-length same-length-2 same-length-3 returns)

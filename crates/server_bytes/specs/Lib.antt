@@ -1,0 +1,5 @@
+pub mod Results
+pub mod Events
+pub mod Calls
+pub mod ValuesRead
+pub mod Start

@@ -1,0 +1,90 @@
+-- The tablet's calls: joining over its state's image, reading into eleven numbers, carrying.
+use mathlib.Core.List.{List, [], _∷_}
+use Prim.Native.Nat.{ℕ}
+use lib.Dec.{eqb}
+use lib.IntN.{ℤ, pos}
+use lib.ListN.{length, replicate}
+use Rattle.octets.specs.Choice.{pick}
+use Rattle.coding.specs.WellFormed.{readOf}
+use Rattle.coding.specs.WellFormed as wellFormed
+use Rattle.record.specs.declared.kinds.Reading.{Reading}
+use Rattle.record.specs.declared.kinds.Reading.the-variants.{Is}
+use Rattle.record.specs.declared.kinds.Reading.the-variants as readings
+use Rattle.record.specs.declared.kinds.Record.{Record}
+use Rattle.record.specs.declared.kinds.Record.the-variants.{TimeUpdate, TimeFault}
+use Rattle.tablet.specs.Joining.{joinOf, numberOf}
+use Rattle.tablet.specs.declared.joining.Answer.{Answer}
+use Rattle.tablet.specs.declared.joining.Answer.the-variants.{More, Whole, Refused}
+use Rattle.tablet.specs.declared.joining.Joined.{Joined}
+use Rattle.carry.specs.Carry.{carryOf}
+use Rattle.carry.specs.Carry as carry
+use Rattle.carry.specs.declared.stamp.Carried.{Carried}
+use Rattle.carry.specs.declared.stamp.Carried.the-variants.{To, TableNotSound, NotHeld, FaultAmong, PastRange}
+use Rattle.image.specs.Joining.{joiningBytes, joiningImage, joiningIn}
+use Rattle.image.specs.Results.{refusal}
+
+-- "0 more to come, 1 to 45: a whole record of that length stands in joining"
+abbrev pub joinResult : Answer → ℕ → ℤ
+joinResult More n = pos 0
+joinResult Whole n = pos n
+joinResult Refused n = refusal (numberOf Refused)
+
+-- the result, and the bytes of the joining state after it
+pub record JoinedBytes : Type 0 where
+  pub result : ℤ
+  pub joining : List ℕ
+
+abbrev pub joined : ℤ → List ℕ → JoinedBytes
+joined z j = record { result = z; joining = j }
+
+abbrev pub joinedBytes : Joined → JoinedBytes
+joinedBytes u = joined (joinResult (u .answer) (u .joining .len)) (joiningImage (u .joining))
+
+-- "another length .. is 10, and every byte lent becomes 0"
+unfoldable pub joinAt : List ℕ → List ℕ → JoinedBytes
+joinAt j n =
+    pick (eqb (length j) joiningBytes)
+    (joinedBytes (joinOf (joiningIn j) n))
+    (joined (refusal (numberOf Refused)) (replicate (length j) 0))
+
+-- "sequence, type, status, old status, fault count, zone byte, DST, source, accuracy, base, old base; 0 where the type has none"
+unfoldable pub fieldsIn : Record → List ℕ
+fieldsIn (TimeUpdate u) =
+    u .sequence ∷ 1 ∷ u .status ∷ u .oldstatus ∷ u .faults ∷ u .zone ∷ u .dst ∷ u .source ∷ u .accuracy ∷ u .base ∷ u .oldbase ∷ []
+fieldsIn (TimeFault f) =
+    f .sequence ∷ 0 ∷ f .status ∷ f .oldstatus ∷ f .faults ∷ 0 ∷ 0 ∷ 0 ∷ 0 ∷ f .base ∷ f .oldbase ∷ []
+
+-- the result, minus the number that reading answers, and the eleven numbers after it
+pub record ReadNumbers : Type 0 where
+  pub result : ℤ
+  pub fields : List ℕ
+
+abbrev pub reading : ℤ → List ℕ → ReadNumbers
+reading z f = record { result = z; fields = f }
+
+-- the record's numbers, or those that stood there
+abbrev pub numbersAfter : List ℕ → Reading → List ℕ
+numbersAfter f (Is r) = fieldsIn r
+numbersAfter f readings.Refused = f
+
+unfoldable pub readAt : List ℕ → List ℕ → ReadNumbers
+readAt b f = reading (refusal (wellFormed.numberOf (readOf b))) (numbersAfter f (readOf b))
+
+-- the result, minus the number that carrying answers, and the carried stamp after it
+pub record CarriedTo : Type 0 where
+  pub result : ℤ
+  pub carried : ℤ
+
+abbrev pub carrying : ℤ → ℤ → CarriedTo
+carrying z y = record { result = z; carried = y }
+
+-- the stamp that was carried, or the number that stood there
+abbrev pub stampAfter : ℤ → Carried → ℤ
+stampAfter y (To z) = z
+stampAfter y TableNotSound = y
+stampAfter y NotHeld = y
+stampAfter y FaultAmong = y
+stampAfter y PastRange = y
+
+unfoldable pub carryAt : ℕ → ℕ → List ℕ → ℤ → CarriedTo
+carryAt stamp q t y = carrying (refusal (carry.numberOf (carryOf stamp q t))) (stampAfter y (carryOf stamp q t))
