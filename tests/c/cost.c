@@ -1,6 +1,6 @@
 /*
  * Makes one kind of call a number of times over a full table of so many slots: cost KIND SLOTS TIMES. For
- * counting instructions: what TIMES more cost is the difference of two counts (.ci/cost).
+ * counting instructions: what TIMES more cost is the difference of two counts (tools/cost).
  */
 #include "check.h"
 #include "whiskraven.h"
