@@ -1,4 +1,4 @@
-// What an entry point answers, and the state that it leaves.
+// What a call answers over bytes, and the state that it leaves.
 use clock::answers::Answer;
 use clock::answers::number_of;
 use clock::events::Event;
@@ -8,8 +8,8 @@ use refusals::reply::Reply;
 use refusals::reply::done;
 use transfer::notify::Notified;
 ghost use mathlib.Core.Path.{_≡_};
-ghost use Prim.Native.Nat.{_≤_};
 ghost use mathlib.Core.Bool.{true};
+ghost use Prim.Native.Nat.{_≤_};
 ghost use lib.ListN.{length};
 ghost use Rattle.refusals.specs.Outcome.{doneB};
 ghost use Rattle.image.specs.State.{stateBytes};
