@@ -11,7 +11,7 @@ use Rattle.octets.specs.Numbers.{bytes2, bytes4}
 use Rattle.octets.proofs.Tests.{both-yes, both-no, both-reads, clash}
 use Rattle.rules.specs.Rules.{baseB}
 use Rattle.clock.specs.Events.{withBase}
-use Rattle.clock.specs.Rules.{clockB}
+use Rattle.clock.specs.Rules.{timeB, clockB}
 use Rattle.clock.specs.State.{newReader}
 use Rattle.clock.specs.declared.state.Clock.{Clock}
 use Rattle.clock.specs.declared.state.Left.the-variants.{Nothing}
@@ -86,7 +86,7 @@ image-back s h = sym (same-reads s (imageOf (clockIn s)) (both-reads (eqb (lengt
 
 -- the clock that stands for no image breaks a rule, so that one that obeys them was read from an image
 none-broken : clockB noClock ≡ false
-unfolding clockB noClock withBase newReader baseB
+unfolding clockB timeB noClock withBase newReader baseB
 none-broken = refl
 
 pub no-image : (s : List ℕ) → imageB s ≡ false → clockB (clockOf s) ≡ false

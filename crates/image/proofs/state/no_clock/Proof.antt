@@ -11,7 +11,7 @@ new-reader-requires c κs = search needs
 
 returns : tie.Need-returns
 unfolding noClock withBase
-returns c = rw (c .new-reader .ensures)
+returns c = rw (c .before .new-reader .ensures)
 
 pub no-clock-spec : {M : Type 1} → statement M
 no-clock-spec = tie.close (tie.spec new-reader-requires returns)
