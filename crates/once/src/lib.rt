@@ -1,4 +1,5 @@
-// One outcome of every call, tied to the contract that the call itself must meet.
+// One outcome of each call, over the contract that the call itself must meet: the doors of the server, of the tablet, for C and
+// of the programs' crates, and what stands behind them. `weaker`: promises that two outcomes meet.
 pub mod of_behind;
 pub mod of_boundary;
 pub mod of_programs;

@@ -1,9 +1,6 @@
 -- Two outcomes that meet one equation are one: those by value by that alone, those of lent buffers by the parts of the whole (`split`).
 -- Assumes nothing.
-use mathlib.Core.Path.{refl, sym, _∙_, ap}
-use mathlib.Core.List.{List}
-use Prim.Native.Nat.{ℕ}
-use Rattle.log.specs.Writing.{Start}
+use mathlib.Core.Path.{refl, sym, _∙_}
 use Rattle.once.proofs.Whole.{split}
 use Rattle.once.proofs.of_tables.one_outcome.Statement.{statement}
 use Rattle.once.proofs.of_tables.one_outcome.Tie as tie
@@ -20,8 +17,8 @@ returns c =
       number-after = λ κs a x y u v h p q. (p ∙ sym q, refl);
       first-number = λ κs a x y u v h p q. (p ∙ sym q, refl);
       sound = (λ κs a. tt, λ κs a x y u v h p q. (p ∙ sym q, refl));
-      start = (λ κs a. tt, λ κs a x y u v h p q. split (λ (w : Start). w .answer) (λ w. (w .table, tt)) p q);
-      append = λ κs a x y u v h p q. (refl, ap (λ (t : List ℕ). (t, (tt, tt))) (p ∙ sym q));
+      start = (λ κs a. tt, λ κs a x y u v h p q. split p q (λ w. w .answer) (λ w. (w .table, tt)));
+      append = λ κs a x y u v h p q. split p q (λ t. tt) (λ t. (t, (tt, tt)));
       held-count = λ κs a x y u v h p q. (p ∙ sym q, refl);
       next-number = λ κs a x y u v h p q. (p ∙ sym q, refl);
       age-of = λ κs a x y u v h p q. (p ∙ sym q, refl);
