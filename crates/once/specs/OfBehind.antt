@@ -3,6 +3,10 @@
 use Rattle.once.specs.Only.{Only}
 use Rattle.clock.proofs.state.new_reader.Kinds as new-reader-kinds
 use Rattle.clock.proofs.state.new_reader.Reads as new-reader-reads
+use Rattle.clock.proofs.state.all_off.Kinds as all-off-kinds
+use Rattle.clock.proofs.state.all_off.Reads as all-off-reads
+use Rattle.clock.proofs.state.with_running.Kinds as with-running-kinds
+use Rattle.clock.proofs.state.with_running.Reads as with-running-reads
 use Rattle.clock.proofs.obeys.clock_ok.Kinds as clock-ok-kinds
 use Rattle.clock.proofs.obeys.clock_ok.Reads as clock-ok-reads
 use Rattle.clock.proofs.obeys.filter_ok.Kinds as filter-ok-kinds
@@ -53,11 +57,11 @@ use Rattle.access.proofs.response.count_bytes.Kinds as count-bytes-kinds
 use Rattle.access.proofs.response.count_bytes.Reads as count-bytes-reads
 use Rattle.asking.proofs.report.left_from.Kinds as left-from-kinds
 use Rattle.asking.proofs.report.left_from.Reads as left-from-reads
-use Rattle.asking.proofs.report.with_running.Kinds as with-running-kinds
-use Rattle.asking.proofs.report.with_running.Reads as with-running-reads
 
 pub record OneOutcome : Type 0 where
   pub new-reader : Only new-reader-kinds.ps new-reader-kinds.r new-reader-reads.Pre new-reader-reads.Post
+  pub all-off : Only all-off-kinds.ps all-off-kinds.r all-off-reads.Pre all-off-reads.Post
+  pub with-running : Only with-running-kinds.ps with-running-kinds.r with-running-reads.Pre with-running-reads.Post
   pub clock-ok : Only clock-ok-kinds.ps clock-ok-kinds.r clock-ok-reads.Pre clock-ok-reads.Post
   pub filter-ok : Only filter-ok-kinds.ps filter-ok-kinds.r filter-ok-reads.Pre filter-ok-reads.Post
   pub number-of : Only number-of-kinds.ps number-of-kinds.r number-of-reads.Pre number-of-reads.Post
@@ -83,4 +87,3 @@ pub record OneOutcome : Type 0 where
   pub code-bytes : Only code-bytes-kinds.ps code-bytes-kinds.r code-bytes-reads.Pre code-bytes-reads.Post
   pub count-bytes : Only count-bytes-kinds.ps count-bytes-kinds.r count-bytes-reads.Pre count-bytes-reads.Post
   pub left-from : Only left-from-kinds.ps left-from-kinds.r left-from-reads.Pre left-from-reads.Post
-  pub with-running : Only with-running-kinds.ps with-running-kinds.r with-running-reads.Pre with-running-reads.Post

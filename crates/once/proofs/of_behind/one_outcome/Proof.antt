@@ -8,6 +8,8 @@ returns : tie.Need-returns
 returns c =
     record {
       new-reader = λ κs a x y u v h p q. (p ∙ sym q, refl);
+      all-off = λ κs a x y u v h p q. (p ∙ sym q, refl);
+      with-running = λ κs a x y u v h p q. (p ∙ sym q, refl);
       clock-ok = λ κs a x y u v h p q. (p ∙ sym q, refl);
       filter-ok = λ κs a x y u v h p q. (p ∙ sym q, refl);
       number-of = λ κs a x y u v h p q. (p ∙ sym q, refl);
@@ -33,7 +35,6 @@ returns c =
       code-bytes = λ κs a x y u v h p q. (p ∙ sym q, refl);
       count-bytes = λ κs a x y u v h p q. (p ∙ sym q, refl);
       left-from = λ κs a x y u v h p q. (p ∙ sym q, refl);
-      with-running = λ κs a x y u v h p q. (p ∙ sym q, refl);
     }
 
 pub one-outcome-spec : {M : Type 1} → statement M
