@@ -20,6 +20,7 @@ use Rattle.rules.specs.Rules.{baseB, zoneB, dstB, sourceB, statusB}
 use Rattle.rules.proofs.RangeLaws.{base-reads}
 use Rattle.record.specs.Fields.{typeOf}
 use Rattle.coding.specs.WellFormed.{updateB, recordB}
+use Rattle.coding.proofs.RuleLaws.{update-rules}
 use Rattle.record.specs.declared.kinds.Update.{Update}
 use Rattle.record.specs.declared.kinds.Record.{Record}
 use Rattle.record.specs.declared.kinds.Record.the-variants.{TimeUpdate, TimeFault}
@@ -63,9 +64,8 @@ over-done z l e h = rw (e, fits z h)
 
 -- a record within the rules moves a stamp by less than 2^32
 times-small : (u : Update) → updateB u ≡ true → (u .base ≤ 4294967295) × (u .oldbase ≤ 4294967295)
-unfolding updateB
 times-small u h =
-    let a = both-reads (both (statusB (u .status)) (statusB (u .oldstatus))) _ h in
+    let a = both-reads (both (statusB (u .status)) (statusB (u .oldstatus))) _ (sym (update-rules u) ∙ h) in
     let b = both-reads (both (zoneB (u .zone)) (dstB (u .dst))) _ (a .1) in
     let d = both-reads (sourceB (u .source)) _ (b .1) in
     let e = both-reads (baseB (u .base)) (baseB (u .oldbase)) (d .1) in
