@@ -26,7 +26,6 @@ use Rattle.judging.specs.Grounds.{epochB, rangeB, lowerB, secondsApart, unreali
 use Rattle.judging.specs.Proposal.{proposalAt}
 use Rattle.update.specs.Response.{responseBytes}
 use Rattle.refusals.specs.Outcome.{Outcome, doneB, answered}
-use Rattle.service.specs.Promises.{World, world}
 use Rattle.refusals.specs.Rows.{firstFailed, leftB, wholeB, tableRows, writeRows}
 use Rattle.refusals.specs.Rows as rows
 use Rattle.service.specs.Start.{newReaderOf}
@@ -41,7 +40,7 @@ use Rattle.asking.specs.Access.{accessRows, accessed, begunOf, abortedOf, acces
 use Rattle.transfer.specs.Notify.{Notice, roomB, notifyRows, headerOf, segmentOf, leftAfter, closingOf, saidOf, noticed, runningNotice, notifyOf}
 use Rattle.tablet.specs.Joining.{emptyJoining, rangesB, filledB, placedB, followsB, standing, takesB, ground, takenOf, joinOf}
 use Rattle.promises.specs.Joined.{Got, joinAll}
-use Rattle.promises.specs.World.{left}
+use Rattle.promises.specs.World.{World, world, newWorld, left}
 
 -- A write's opcode, flags, Base_Time and zone: "epoch 2000, GPS (2), zone 4, DST 0, UTC and qualified-local flags, kept in all updates below".
 -- The paper does not say the accuracy; it is 1.
@@ -68,7 +67,7 @@ longOutput = replicate 244 0xaa
 -- "New reader, switches on"
 unfoldable pub started : World
 unfolding newReaderOf startOf fresh newReader sizeB switchesOf unlessBroken clockB timeB clocks.runningB baseB zoneB dstB sourceB statusB bitsB
-started = let b = newReaderOf (replicate 272 0xaa) in world (switchesOf (b .event .clock) true true true .clock) (b .table)
+started = let v = newWorld (replicate 272 0xaa) in world (switchesOf (v .clock) true true true .clock) (v .table)
 
 -- n seconds
 unfoldable pub tick : World → ℕ → Event

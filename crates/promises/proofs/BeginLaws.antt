@@ -21,7 +21,6 @@ use Rattle.clock.specs.declared.state.Left.the-variants.{From}
 use Rattle.clock.proofs.RuleLaws.{running-makes}
 use Rattle.clock.proofs.EventLaws.{with-running-obeys}
 use Rattle.refusals.specs.Outcome.{doneB, answered}
-use Rattle.service.specs.Promises.{World, world}
 use Rattle.refusals.proofs.RowLaws.{whole-reads}
 use Rattle.access.specs.Codes.{codeOf}
 use Rattle.access.specs.Request.{opcodeIn, requestOf}
@@ -29,7 +28,7 @@ use Rattle.access.specs.Response.{codeBytes}
 use Rattle.access.specs.declared.request.Request.the-variants.{Report}
 use Rattle.asking.specs.Report.{report, leftFrom}
 use Rattle.asking.specs.Access.{accessed, begunOf, accessedOf, responseIn, accessOf}
-use Rattle.promises.specs.World.{left}
+use Rattle.promises.specs.World.{World, world, left}
 use Rattle.promises.specs.Reports.{responseTo, AcceptedReport, Accepted, begun}
 use Rattle.promises.proofs.HeldLaws.{Stands, none, some, left-stands}
 use Rattle.promises.proofs.RunLaws.{Runs}

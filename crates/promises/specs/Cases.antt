@@ -25,7 +25,6 @@ use Rattle.clock.specs.declared.state.Clock.{Clock}
 use Rattle.clock.specs.declared.state.Running.the-variants.{Idle}
 use Rattle.service.specs.Fault.{countAfter, faultRecord, faultedOf, endingOf, faultOf}
 use Rattle.refusals.specs.Outcome.{doneB, answered}
-use Rattle.service.specs.Promises.{world}
 use Rattle.refusals.specs.Rows.{firstFailed, leftB, wholeB, tableRows, writeRows}
 use Rattle.refusals.specs.Rows as rows
 use Rattle.service.specs.Update.{updateRows, updateOf}
@@ -39,7 +38,7 @@ use Rattle.asking.specs.Report as reports
 use Rattle.asking.specs.Access.{accessRows, accessed, begunOf, abortedOf, accessedOf, accessOf}
 use Rattle.transfer.specs.Notify.{roomB, notifyRows, headerOf, segmentOf, leftAfter, closingOf, saidOf, noticed, runningNotice, notifyOf}
 use Rattle.tablet.specs.Joining.{emptyJoining, rangesB, filledB, placedB, followsB, standing, takesB, ground, takenOf, joinOf}
-use Rattle.promises.specs.World.{Call, seconds, switches, fault, recordAccess, notify, Notifying, stepBy}
+use Rattle.promises.specs.World.{world, Call, seconds, switches, fault, recordAccess, notify, Notifying, stepBy}
 use Rattle.promises.specs.Hearing.{heardIn, heardBy, hearingBy, undisturbedB}
 use Rattle.promises.specs.Joined.{Got, got, joinAll}
 use Rattle.promises.specs.Reports.{Accepted, begun}

@@ -15,13 +15,12 @@ use Rattle.record.specs.declared.kinds.Record.{Record}
 use Rattle.record.specs.declared.kinds.Reading.the-variants.{Is}
 use Rattle.held.specs.Matching.{matching}
 use Rattle.refusals.specs.Outcome.{doneB}
-use Rattle.service.specs.Promises.{World}
 use Rattle.access.specs.Request.{opcodeIn, requestOf}
 use Rattle.access.specs.declared.request.Request.the-variants.{Report}
 use Rattle.asking.specs.Access.{accessOf}
 use Rattle.transfer.specs.Notify.{roomB}
 use Rattle.tablet.specs.Joining.{emptyJoining}
-use Rattle.promises.specs.World.{Call, seconds, switches, disconnect, fault, timeUpdate, recordAccess, notify, Notifying, left}
+use Rattle.promises.specs.World.{World, Call, seconds, switches, disconnect, fault, timeUpdate, recordAccess, notify, Notifying, left}
 use Rattle.promises.specs.Hearing.{Hearing, hearingBy, hearingOf, undisturbedB, allCalmB}
 use Rattle.promises.specs.Joined.{got, joinAll}
 

@@ -2,4 +2,3 @@ pub mod FaultLaws
 pub mod BeginLaws
 pub mod UpdateLaws
 pub mod PromiseLaws
-pub mod ReachLaws

@@ -13,7 +13,7 @@ use Rattle.record.specs.Fields.{sequenceOf}
 use Rattle.layout.specs.Layout.{updateBytes, faultBytes, bytesOf, updateAt, faultAt, recordOf, sizedB, shapeB}
 use Rattle.coding.specs.WellFormed.{updateB, faultB, recordB, wellFormedB}
 use Rattle.table.specs.Table.{sizeB, startB, emptyB, fieldsB, headB, next, slot, bytesIn, recordIn, slots, ring, held, slotB, rowB, soundB, steps}
-use Rattle.log.specs.Writing.{fresh, placeOf, slotOf, headerAfter, appendOf}
+use Rattle.log.specs.Writing.{fresh, startOf, placeOf, slotOf, headerAfter, appendOf}
 use Rattle.held.specs.Matching.{firstFrom, nextMatch, matchingFrom, matching}
 use Rattle.clock.specs.Answers.{numberOf}
 use Rattle.clock.specs.State.{newReader}
@@ -27,9 +27,9 @@ use Rattle.judging.specs.Grades.{clockGrade, localB, gradeOf}
 use Rattle.judging.specs.Grounds.{epochB, rangeB, lowerB, secondsApart, unrealisticB, flagIf, groundsOf}
 use Rattle.judging.specs.Proposal.{proposalAt}
 use Rattle.update.specs.Response.{responseBytes}
+use Rattle.service.specs.Start.{newReaderOf}
 use Rattle.service.specs.Fault.{countAfter, faultRecord, faultedOf, endingOf, faultOf}
 use Rattle.refusals.specs.Outcome.{doneB, answered}
-use Rattle.service.specs.Promises.{started}
 use Rattle.refusals.specs.Rows.{firstFailed, leftB, wholeB, tableRows, writeRows}
 use Rattle.refusals.specs.Rows as rows
 use Rattle.service.specs.Update.{updateRows, tableAfter, settledOf, effectOf, updateOf}
@@ -44,7 +44,7 @@ use Rattle.transfer.specs.Notify.{roomB, notifyRows, headerOf, segmentOf, leftA
 use Rattle.carry.specs.Carry.{laterOf, carriedOver, carriedFrom, carryOf, noFaultB, movedBy}
 use Rattle.carry.specs.declared.stamp.Carried.{Carried}
 use Rattle.carry.specs.declared.stamp.Carried.the-variants.{To, NotHeld, FaultAmong}
-use Rattle.promises.specs.World.{Call, seconds, switches, fault, timeUpdate, recordAccess, notify, stepBy, runOf}
+use Rattle.promises.specs.World.{newWorld, Call, seconds, switches, fault, timeUpdate, recordAccess, notify, stepBy, runOf}
 use Rattle.stamps.specs.Stamps.{ranIn, ranOf, loggedIn, loggedOf, carriedAfter, allHeldB}
 
 -- the stamp and its number, how many records came after it, the theorem's two tests, what carrying gives; the clock then, and the seconds
@@ -67,9 +67,9 @@ abbrev pub output : List ℕ
 output = replicate 244 0
 
 unfoldable pub resultOf : List ℕ → List Call → List Call → Result
-unfolding newReader fresh accessRows accessed begunOf abortedOf accessedOf accessOf operandBytes typedB filterAt request.operandOf askedOf abortOf requestOf codeOf codeBytes countBytes firstFailed leftB wholeB tableRows writeRows rows.runningB clocks.runningB doneB answered numberOf opcodeB filterB counterB reportB clockB timeB baseB zoneB dstB sourceB statusB bitsB soundB headB sizeB startB emptyB fieldsB zerosB slot bytesIn recordIn slots ring held slotB rowB wellFormedB shapeB sizedB recordB updateB faultB recordOf updateAt faultAt sequenceOf matchesB firstFrom nextMatch matchingFrom matching numberIn reports.bytesIn leftAt leftFrom bytesOf updateBytes faultBytes over roomB notifyRows headerOf segmentOf leftAfter closingOf saidOf noticed runningNotice notifyOf unlessBroken withBase secondsOf switchesOf faultOf faultedOf countAfter faultRecord endingOf appendOf steps placeOf slotOf headerAfter updateRows tableAfter settledOf effectOf updateOf statusAfter alignedAfter accuracyOf acceptedOf loggedB updateRecord judged decide.operandOf decideOf clockGrade localB gradeOf epochB rangeB lowerB secondsApart unrealisticB flagIf groundsOf proposalAt responseBytes laterOf movedBy carriedOver carriedFrom carryOf stepBy runOf ranIn ranOf loggedIn loggedOf noFaultB
+unfolding newReaderOf startOf newReader fresh accessRows accessed begunOf abortedOf accessedOf accessOf operandBytes typedB filterAt request.operandOf askedOf abortOf requestOf codeOf codeBytes countBytes firstFailed leftB wholeB tableRows writeRows rows.runningB clocks.runningB doneB answered numberOf opcodeB filterB counterB reportB clockB timeB baseB zoneB dstB sourceB statusB bitsB soundB headB sizeB startB emptyB fieldsB zerosB slot bytesIn recordIn slots ring held slotB rowB wellFormedB shapeB sizedB recordB updateB faultB recordOf updateAt faultAt sequenceOf matchesB firstFrom nextMatch matchingFrom matching numberIn reports.bytesIn leftAt leftFrom bytesOf updateBytes faultBytes over roomB notifyRows headerOf segmentOf leftAfter closingOf saidOf noticed runningNotice notifyOf unlessBroken withBase secondsOf switchesOf faultOf faultedOf countAfter faultRecord endingOf appendOf steps placeOf slotOf headerAfter updateRows tableAfter settledOf effectOf updateOf statusAfter alignedAfter accuracyOf acceptedOf loggedB updateRecord judged decide.operandOf decideOf clockGrade localB gradeOf epochB rangeB lowerB secondsApart unrealisticB flagIf groundsOf proposalAt responseBytes laterOf movedBy carriedOver carriedFrom carryOf stepBy runOf ranIn ranOf loggedIn loggedOf noFaultB
 resultOf t before after =
-    let v = runOf (started t) before in
+    let v = runOf (newWorld t) before in
     record {
       stamp = v .clock .time .base;
       number = next (v .table);
