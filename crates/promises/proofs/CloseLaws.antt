@@ -18,7 +18,7 @@ use Rattle.table.specs.Table.{soundB}
 use Rattle.clock.specs.declared.state.Clock.{Clock}
 use Rattle.transfer.specs.Notify.{roomB}
 use Rattle.promises.specs.World.{world, Call, seconds, switches, disconnect, fault, timeUpdate, recordAccess, notify}
-use Rattle.promises.specs.Hearing.{segment, closing, Hearing, onward, hearingBy, hearingOf}
+use Rattle.promises.specs.Hearing.{segment, Hearing, onward, hearingBy, hearingOf}
 use Rattle.promises.specs.Reports.{askingB, askingsB, longB, pieces, segments, Exact}
 use Rattle.promises.proofs.RunLaws.{Runs, Told, closes, last, more, told}
 use Rattle.promises.proofs.HeardLaws.{room-reads, hears, closing-heard}

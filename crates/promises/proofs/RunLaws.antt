@@ -26,7 +26,6 @@ use Rattle.clock.specs.declared.answers.Answer.the-variants.{OutputShort}
 use Rattle.clock.specs.declared.state.Clock.{Clock}
 use Rattle.clock.specs.declared.state.Left.{Left}
 use Rattle.clock.specs.declared.state.Left.the-variants.{Nothing, From}
-use Rattle.clock.specs.declared.state.Running.{Running}
 use Rattle.clock.specs.declared.state.Running.the-variants.{Reporting}
 use Rattle.clock.proofs.RuleLaws.{clock-reads, running-reads, running-makes}
 use Rattle.clock.proofs.EventLaws.{with-running-obeys}

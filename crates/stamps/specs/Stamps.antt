@@ -9,7 +9,6 @@ use lib.IntN.{ℤ, pos, _-ℤ_}
 use lib.ListN.{length}
 use Rattle.octets.specs.Choice.{both, pick}
 use Rattle.record.specs.declared.kinds.Record.{Record}
-use Rattle.record.specs.declared.kinds.Record.the-variants.{TimeUpdate, TimeFault}
 use Rattle.table.specs.Table.{slotsIn, sizeB, next, held}
 use Rattle.log.specs.Writing.{newest}
 use Rattle.clock.specs.Events.{secondsOf}
