@@ -3,13 +3,10 @@
 use mathlib.Core.Path.{_≡_, refl, ap}
 use mathlib.Core.List.{List, [], _∷_}
 use Prim.Native.Nat.{ℕ}
-use Rattle.octets.specs.Parts.{over}
 use Rattle.filter.specs.declared.request.Filter.the-variants.{All, AtLeast}
 use Rattle.clock.specs.declared.state.Clock.{Clock}
-use Rattle.refusals.specs.Outcome.{Outcome, answered}
-use Rattle.access.specs.Codes.{codeOf}
+use Rattle.refusals.specs.Outcome.{Outcome}
 use Rattle.access.specs.Request.{opcodeIn, requestOf}
-use Rattle.access.specs.Response.{codeBytes, countBytes}
 use Rattle.access.specs.declared.request.Request.{Request}
 use Rattle.access.specs.declared.request.Request.the-variants.{Report, Number, Abort, Refused}
 use Rattle.asking.specs.Access.{accessedOf, accessOf}
@@ -32,19 +29,19 @@ module _ (c : Clock) (t w o : List ℕ) where
   parts = rw (same (opcodeIn w) (requestOf w))
 
 numbers-next : NumberCounts numbersNext → ⊥
-unfolding access first accessingBy accessedBy answered countBytes over
+unfolding access first accessingBy accessedBy
 numbers-next a =
     let e = a (first .clock) (first .table) (0x04 ∷ 0x03 ∷ 0x01 ∷ 0x01 ∷ 0x00 ∷ []) output (AtLeast 1) refl refl in
     differ 2 (ap (λ (u : Outcome). response u) e) refl
 
 numbers-none : NumberCounts numbersNone → ⊥
-unfolding access first accessingBy accessedBy answered countBytes over
+unfolding access first accessingBy accessedBy
 numbers-none a =
     let e = a (first .clock) (first .table) (0x04 ∷ 0x01 ∷ []) output All refl refl in
     differ 2 (ap (λ (u : Outcome). response u) e) refl
 
 accepts-any : AcceptedWhenMatching acceptsAny → ⊥
-unfolding access started accessingBy accessedBy answered codeBytes codeOf over
+unfolding access started accessingBy accessedBy
 accepts-any a =
     let e = a .report (started .clock) (started .table) (0x01 ∷ 0x01 ∷ []) output All refl refl in
     differ 0 (ap (λ (u : Outcome). response u) e) refl
