@@ -1,6 +1,6 @@
 -- Cases of writes to the Record Access Control Point, run by the checker on the definitions that the calls' promises cite. RA1 to RA63 are
 -- test vectors worked out from document 01 apart from these definitions; a write that stands twice among them stands here once, and RA55's
--- is refused before it is read. Case 11 is the paper's own. What a request comes to on a table is no matter of this crate.
+-- is refused before it is read. What a request comes to on a table is no matter of this crate.
 use mathlib.Core.Path.{_≡_}
 use mathlib.Core.List.{List, [], _∷_, map}
 use Prim.Native.Nat.{ℕ}
@@ -112,10 +112,6 @@ table =
     ∷ refused (0x04 ∷ 0x04 ∷ 0x01 ∷ 0xfe ∷ 0xff ∷ 0x01 ∷ 0x00 ∷ []) (0x06 ∷ 0x00 ∷ 0x04 ∷ 0x05 ∷ [])
     ∷ asks (0x01 ∷ 0x02 ∷ 0x01 ∷ 0x01 ∷ 0x00 ∷ []) (Report (AtMost 1))
     ∷ asks (0x01 ∷ 0x04 ∷ 0x01 ∷ 0x00 ∷ 0x00 ∷ 0xff ∷ 0xff ∷ []) (Report (Range 0 65535))
-    -- case 11: "01 00 gives 06 00 01 03; 02 01 gives 06 00 02 02; 04 04 01 05 00 03 00 gives 06 00 04 05"
-    ∷ refused (0x01 ∷ 0x00 ∷ []) (0x06 ∷ 0x00 ∷ 0x01 ∷ 0x03 ∷ [])
-    ∷ refused (0x02 ∷ 0x01 ∷ []) (0x06 ∷ 0x00 ∷ 0x02 ∷ 0x02 ∷ [])
-    ∷ refused (0x04 ∷ 0x04 ∷ 0x01 ∷ 0x05 ∷ 0x00 ∷ 0x03 ∷ 0x00 ∷ []) (0x06 ∷ 0x00 ∷ 0x04 ∷ 0x05 ∷ [])
     ∷ []
 
 abbrev pub Computed : Type 0

@@ -2,15 +2,13 @@
 -- Assumes nothing.
 use mathlib.Core.Path.{_≡_, refl, sym, _∙_, ap}
 use mathlib.Core.Bool.{Bool, true, false}
-use mathlib.Core.List.{List, [], _∷_}
-use Prim.Native.Nat.{ℕ, zero, suc, _<_}
-use native.Mathlib.Omega.{arith}
-use borrow.Author.Tests.{eq-eqb, ltb-true}
-use lib.Dec.{ltb, eqb}
-use Rattle.octets.specs.Choice.{both, pick}
+use mathlib.Core.List.{List}
+use Prim.Native.Nat.{ℕ}
+use borrow.Author.Tests.{eq-eqb}
+use lib.Dec.{eqb}
+use Rattle.octets.specs.Choice.{pick}
 use Rattle.octets.specs.Numbers.{at}
-use Rattle.octets.specs.Parts.{Bytes}
-use Rattle.octets.proofs.Tests.{clash, both-reads}
+use Rattle.octets.proofs.Tests.{clash}
 use Rattle.clock.specs.Answers.{numberOf}
 use Rattle.clock.specs.declared.answers.Answer.{Answer}
 use Rattle.clock.specs.declared.answers.Answer.the-variants.{Done}

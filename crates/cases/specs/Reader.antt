@@ -4,44 +4,17 @@ use mathlib.Core.List.{List, [], _∷_, _++_}
 use Prim.Native.Nat.{ℕ, zero, suc}
 use lib.ListN.{take, replicate}
 use Rattle.octets.specs.Numbers.{bytes4}
-use Rattle.octets.specs.Parts.{zerosB, over}
-use Rattle.rules.specs.Rules.{baseB, zoneB, dstB, sourceB, statusB, bitsB}
-use Rattle.filter.specs.Filter.{matchesB}
-use Rattle.record.specs.Fields.{sequenceOf}
-use Rattle.layout.specs.Layout.{updateBytes, faultBytes, bytesOf, updateAt, faultAt, recordOf, sizedB, shapeB}
-use Rattle.coding.specs.WellFormed.{updateB, faultB, recordB, wellFormedB, readOf}
-use Rattle.table.specs.Table.{sizeB, startB, emptyB, fieldsB, headB, slot, bytesIn, recordIn, slots, ring, held, slotB, rowB, soundB, steps}
-use Rattle.log.specs.Writing.{fresh, startOf, placeOf, slotOf, headerAfter, appendOf}
-use Rattle.held.specs.Matching.{firstFrom, nextMatch, matchingFrom, matching}
-use Rattle.clock.specs.Answers.{numberOf}
-use Rattle.clock.specs.Events.{unlessBroken, withBase, secondsOf, switchesOf}
-use Rattle.clock.specs.Rules.{opcodeB, filterB, counterB, reportB, clockB, timeB}
-use Rattle.clock.specs.Rules as clocks
-use Rattle.clock.specs.State.{newReader}
+use Rattle.clock.specs.Events.{secondsOf, switchesOf}
 use Rattle.clock.specs.declared.events.Event.{Event}
-use Rattle.update.specs.Accept.{statusAfter, alignedAfter, accuracyOf, acceptedOf, loggedB, updateRecord}
-use Rattle.update.specs.Decide.{proposeOpcode, forceOpcode, judged, operandOf, decideOf}
-use Rattle.judging.specs.Grades.{clockGrade, localB, gradeOf}
-use Rattle.judging.specs.Grounds.{epochB, rangeB, lowerB, secondsApart, unrealisticB, flagIf, groundsOf}
-use Rattle.judging.specs.Proposal.{proposalAt}
-use Rattle.update.specs.Response.{responseBytes}
-use Rattle.refusals.specs.Outcome.{Outcome, doneB, answered}
-use Rattle.service.specs.Promises.{World, world}
-use Rattle.refusals.specs.Rows.{firstFailed, leftB, wholeB, tableRows, writeRows}
-use Rattle.refusals.specs.Rows as rows
-use Rattle.service.specs.Start.{newReaderOf}
-use Rattle.service.specs.Update.{updateRows, tableAfter, settledOf, effectOf, updateOf}
-use Rattle.access.specs.Codes.{codeOf}
-use Rattle.access.specs.Request.{operandBytes, typedB, filterAt, askedOf, abortOf, requestOf}
-use Rattle.access.specs.Request as requests
-use Rattle.access.specs.Response.{codeBytes, countBytes}
-use Rattle.asking.specs.Report.{numberIn, leftAt, leftFrom}
-use Rattle.asking.specs.Report as reports
-use Rattle.asking.specs.Access.{accessRows, accessed, begunOf, abortedOf, accessedOf, accessOf}
-use Rattle.transfer.specs.Notify.{Notice, roomB, notifyRows, headerOf, segmentOf, leftAfter, closingOf, saidOf, noticed, runningNotice, notifyOf}
-use Rattle.tablet.specs.Joining.{emptyJoining, rangesB, filledB, placedB, followsB, standing, takesB, ground, takenOf, joinOf}
+use Rattle.update.specs.Decide.{proposeOpcode, forceOpcode}
+use Rattle.refusals.specs.Outcome.{Outcome}
+use Rattle.service.specs.Update.{updateOf}
+use Rattle.asking.specs.Access.{accessOf}
+use Rattle.transfer.specs.Notify.{Notice, notifyOf}
+use Rattle.tablet.specs.Joining.{emptyJoining}
 use Rattle.promises.specs.Joined.{Got, joinAll}
-use Rattle.promises.specs.World.{left}
+use Rattle.promises.specs.World.{World, world, newWorld, left}
+use Rattle.promises.specs.Open.{callsOpen, joiningOpen}
 
 -- A write's opcode, flags, Base_Time and zone: "epoch 2000, GPS (2), zone 4, DST 0, UTC and qualified-local flags, kept in all updates below".
 -- The paper does not say the accuracy; it is 1.
@@ -67,27 +40,27 @@ longOutput = replicate 244 0xaa
 
 -- "New reader, switches on"
 unfoldable pub started : World
-unfolding newReaderOf startOf fresh newReader sizeB switchesOf unlessBroken clockB timeB clocks.runningB baseB zoneB dstB sourceB statusB bitsB
-started = let b = newReaderOf (replicate 272 0xaa) in world (switchesOf (b .event .clock) true true true .clock) (b .table)
+unfolding callsOpen
+started = let v = newWorld (replicate 272 0xaa) in world (switchesOf (v .clock) true true true .clock) (v .table)
 
 -- n seconds
 unfoldable pub tick : World → ℕ → Event
-unfolding secondsOf withBase unlessBroken clockB timeB clocks.runningB baseB zoneB dstB sourceB statusB bitsB
+unfolding callsOpen
 tick v n = secondsOf (v .clock) n
 
 -- a write to the DTCP
 unfoldable pub update : World → List ℕ → Outcome
-unfolding updateOf updateRows firstFailed tableRows writeRows wholeB rows.runningB leftB doneB numberOf clockB timeB clocks.runningB reportB opcodeB filterB counterB baseB zoneB dstB sourceB statusB bitsB soundB headB sizeB startB emptyB fieldsB zerosB slot bytesIn recordIn slots ring held slotB rowB wellFormedB shapeB sizedB recordB updateB faultB recordOf updateAt faultAt sequenceOf matchesB decideOf operandOf judged proposalAt groundsOf flagIf epochB rangeB lowerB unrealisticB secondsApart gradeOf localB clockGrade effectOf settledOf acceptedOf statusAfter alignedAfter accuracyOf tableAfter loggedB updateRecord appendOf steps placeOf slotOf headerAfter bytesOf updateBytes faultBytes responseBytes answered over
+unfolding callsOpen
 update v w = updateOf (v .clock) (v .table) w output
 
 -- a write to the RACP
 unfoldable pub access : World → List ℕ → Outcome
-unfolding update accessOf accessRows accessed begunOf abortedOf accessedOf requestOf askedOf abortOf requests.operandOf operandBytes typedB filterAt codeOf codeBytes countBytes numberIn leftAt leftFrom firstFrom nextMatch matchingFrom matching
+unfolding callsOpen
 access v w = accessOf (v .clock) (v .table) w output
 
 -- a notification of payload size p
 unfoldable pub notify : World → ℕ → Notice
-unfolding access notifyOf notifyRows roomB headerOf segmentOf leftAfter closingOf saidOf noticed runningNotice reports.bytesIn
+unfolding callsOpen
 notify v p = notifyOf (v .clock) (v .table) p longOutput
 
 -- the bytes that are the response
@@ -105,7 +78,7 @@ sent (suc n) p v =
 
 -- notifications as the tablet joins them
 unfoldable pub joined : List (List ℕ) → Got
-unfolding emptyJoining rangesB filledB placedB followsB standing takesB ground takenOf joinOf joinAll readOf wellFormedB shapeB sizedB zerosB recordB updateB faultB baseB zoneB dstB sourceB statusB bitsB recordOf updateAt faultAt
+unfolding joiningOpen
 joined = joinAll emptyJoining
 
 -- the reader after n seconds

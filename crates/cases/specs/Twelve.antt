@@ -18,11 +18,10 @@ use Rattle.clock.specs.declared.state.Running.the-variants.{Idle}
 use Rattle.update.specs.Decide.{proposeOpcode, forceOpcode}
 use Rattle.judging.specs.Grounds.{unrealistic, outOfRange}
 use Rattle.refusals.specs.Outcome.{Outcome}
-use Rattle.service.specs.Promises.{World}
 use Rattle.carry.specs.Carry.{laterOf, movedBy, carriedOver, carriedFrom, carryOf}
 use Rattle.carry.specs.declared.stamp.Carried.{Carried}
 use Rattle.carry.specs.declared.stamp.Carried.the-variants.{To, TableNotSound, NotHeld, FaultAmong, PastRange}
-use Rattle.promises.specs.World.{left}
+use Rattle.promises.specs.World.{World, left}
 use Rattle.promises.specs.Joined.{Got, got}
 use Rattle.cases.specs.Reader.{write, caseFlags, propose, force, started, tick, update, access, response, sent, later, first, second, reporting, joined}
 

@@ -6,21 +6,20 @@ use mathlib.Core.Bool.{Bool, true, false, not}
 use mathlib.Core.List.{List, [], _∷_}
 use Prim.Native.Nat.{ℕ, _+_, _-_, _%_, _<_}
 use lib.Dec.{leb, ltb, eqb}
-use lib.ListN.{length, take, drop}
+use lib.ListN.{length}
 use Rattle.octets.specs.Choice.{both, pick}
-use Rattle.octets.specs.Numbers.{at, bytes2}
+use Rattle.octets.specs.Numbers.{at}
 use Rattle.octets.specs.Parts.{Bytes}
 use Rattle.rules.specs.Rules.{alignedBit}
 use Rattle.filter.specs.declared.request.Filter.{Filter}
 use Rattle.held.specs.Matching.{matching}
-use Rattle.table.specs.Table.{next, held, ageOf}
+use Rattle.table.specs.Table.{next}
 use Rattle.log.specs.Writing.{appendOf}
 use Rattle.clock.specs.State.{withRunning}
-use Rattle.clock.specs.declared.answers.Answer.the-variants.{NothingRunning}
 use Rattle.clock.specs.declared.state.Clock.{Clock}
 use Rattle.clock.specs.declared.state.Time.{Time}
 use Rattle.clock.specs.declared.state.Left.{Left}
-use Rattle.clock.specs.declared.state.Left.the-variants.{Nothing, From}
+use Rattle.clock.specs.declared.state.Left.the-variants.{From}
 use Rattle.clock.specs.declared.state.Report.{Report}
 use Rattle.clock.specs.declared.state.Running.{Running}
 use Rattle.clock.specs.declared.state.Running.the-variants.{Idle, Reporting}
@@ -42,11 +41,9 @@ use Rattle.access.specs.Response.{numberResponse, codeBytes, countBytes}
 use Rattle.access.specs.declared.request.Request.{Request}
 use Rattle.access.specs.declared.request.Request.the-variants as asked
 use Rattle.asking.specs.Access.{accessRows, accessed, begunOf, abortedOf, responseIn, accessOf}
-use Rattle.transfer.specs.Notify.{Notice, notice, Said, said, unsaid, noticed, notifyRows, headerOf, counterAfter, lastB, segmentOf, leftAfter, closingOf, notifyOf}
-use Rattle.asking.specs.Report.{report, bytesIn, leftFrom}
+use Rattle.asking.specs.Report.{leftFrom}
 use Rattle.asking.specs.declared.record_access.Accessed.{Accessed}
-use Rattle.promises.specs.Reports.{FinishedReport}
-use Rattle.promises.specs.World.{Notifying}
+use Rattle.outcomes.specs.OfTransfer.{Accessing, AcceptedWhenMatching, NumberCounts}
 use Rattle.cases.specs.Reader.{write, caseFlags, propose, output, response, second}
 
 -- Time updates: how a write to the DTCP is answered.
@@ -165,20 +162,7 @@ pub record UpdatesShutOut : Type 0 where
   pub names-first : Answers namesFirst → ⊥
   pub subtracts-unsigned : Answers subtractsUnsigned → ⊥
 
--- Record access: how a write to the RACP is answered.
-abbrev pub Accessing : Type 0
-Accessing = Clock → List ℕ → List ℕ → List ℕ → Outcome
-
-pub record Counts (s : Accessing) : Type 0 where
-  -- it refuses where a row fails, and nowhere else
-  pub answers : (c : Clock) (t w o : List ℕ) → doneB (s c t w o .reply .answer) ≡ doneB (firstFailed (accessRows c t w o))
-  -- Number answers 05 00 and the count of matching held records
-  pub number : (c : Clock) (t w o : List ℕ) (f : Filter) → requestOf w ≡ asked.Number f → doneB (s c t w o .reply .answer) ≡ true
-      → response (s c t w o) ≡ 0x05 ∷ 0x00 ∷ bytes2 (length (matching f t))
-  -- a report is accepted, "a 0 without response bytes", exactly where something matches; else 0x06
-  pub accepted : (c : Clock) (t w o : List ℕ) (f : Filter) → requestOf w ≡ asked.Report f → doneB (s c t w o .reply .answer) ≡ true
-      → response (s c t w o) ≡ pick (leb 1 (length (matching f t))) [] (0x06 ∷ 0x00 ∷ opcodeIn w ∷ 0x06 ∷ [])
-
+-- Record access.
 -- `accessOf` with two parts open: the count of a Number, and what a report begins with
 unfoldable pub accessedBy : (Filter → List ℕ → ℕ) → (Filter → List ℕ → Left) → Clock → List ℕ → ℕ → Request → Accessed
 accessedBy counted begins c t opcode (asked.Report f) = begunOf c opcode f (begins f t)
@@ -210,11 +194,11 @@ abbrev pub acceptsAny : Accessing
 acceptsAny = accessingBy countMatching (λ f t. From 0 0)
 
 pub record AccessShutOut : Type 0 where
-  pub right : Counts accessOf
+  pub right : AcceptedWhenMatching accessOf × NumberCounts accessOf
   pub parts : (c : Clock) (t w o : List ℕ) → accessingBy countMatching firstMatch c t w o ≡ accessOf c t w o
-  pub numbers-next : Counts numbersNext → ⊥
-  pub numbers-none : Counts numbersNone → ⊥
-  pub accepts-any : Counts acceptsAny → ⊥
+  pub numbers-next : NumberCounts numbersNext → ⊥
+  pub numbers-none : NumberCounts numbersNone → ⊥
+  pub accepts-any : AcceptedWhenMatching acceptsAny → ⊥
 
 -- The time fault: how it is answered.
 abbrev pub Faulting : Type 0

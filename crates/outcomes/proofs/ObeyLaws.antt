@@ -2,8 +2,8 @@
 -- Assumes nothing.
 use mathlib.Core.Path.{_≡_, refl, sym, _∙_, ap}
 use mathlib.Core.Bool.{Bool, true, false}
-use mathlib.Core.List.{List, [], _∷_, map}
-use Prim.Native.Nat.{ℕ, zero, suc, _+_, _-_, _%_, _<_}
+use mathlib.Core.List.{List, [], _∷_}
+use Prim.Native.Nat.{ℕ, _+_, _-_, _<_}
 use native.Mathlib.Omega.{arith}
 use borrow.Author.Tests.{leb-false, lt-ltb, le-ltb}
 use lib.Dec.{ltb}
@@ -11,19 +11,16 @@ use lib.ListN.{length, drop}
 use Rattle.octets.specs.Choice.{pick}
 use Rattle.octets.proofs.Tests.{both-yes}
 use Rattle.filter.specs.declared.request.Filter.{Filter}
-use Rattle.record.specs.Fields.{sequenceOf}
 use Rattle.layout.specs.Layout.{bytesOf}
 use Rattle.record.specs.declared.kinds.Record.{Record}
 use Rattle.coding.proofs.RoundTrip.{length-bytes}
-use Rattle.table.specs.Table.{count, first, ageOf, recordIn, soundB}
+use Rattle.table.specs.Table.{count, ageOf, recordIn, soundB}
 use Rattle.table.specs.Table as table
 use Rattle.held.specs.Matching.{matchesAt, nextMatch}
-use Rattle.log.specs.Promises.{rising}
 use Rattle.held.specs.declared.matching.Found.{Found}
 use Rattle.held.specs.declared.matching.Found.the-variants as found
-use Rattle.table.proofs.HeadLaws.{sound-head}
-use Rattle.log.proofs.HistoryLaws.{consecutive}
-use Rattle.held.proofs.LookLaws.{slotAt, drop-held}
+use Rattle.table.proofs.SlotLaws.{slotAt}
+use Rattle.held.proofs.LookLaws.{age-held, drop-held}
 use Rattle.clock.specs.State.{withRunning}
 use Rattle.clock.specs.Rules.{opcodeB, filterB, clockB}
 use Rattle.clock.specs.Rules as rules
@@ -50,27 +47,10 @@ use Rattle.asking.proofs.FoundLaws.{next-found}
 use Rattle.asking.proofs.LeftLaws.{Unsent, left-reads}
 use Rattle.asking.proofs.AccessLaws.{access-refused, access-done}
 
--- the number of the held record of an age, from its rising numbers
-number-drop : (l : List Record) (s k j : ℕ) → map sequenceOf l ≡ rising s k → s < 65536 → j < k → numberIn (drop j l) ≡ (s + j) % 65536
+-- the number of the record at an age has that age
+age-in : (t : List ℕ) (j : ℕ) → soundB t ≡ true → j < count t → ageOf t (numberIn (drop j (table.held t))) ≡ j
 unfolding numberIn
-number-drop l s zero j e h lt = absurd (omega arith)
-number-drop [] s (suc k) j e h lt = let z : _≡_ {A = ℕ} 0 1 = cc in absurd (omega arith)
-number-drop (r ∷ l) s (suc k) zero e h lt = let z : sequenceOf r ≡ s = cc in omega arith
-number-drop (r ∷ l) s (suc k) (suc j) e h lt =
-    let z : map sequenceOf l ≡ rising ((s + 1) % 65536) k = cc in
-    number-drop l ((s + 1) % 65536) k j z (omega arith) (omega arith) ∙ step s j
-  where
-    step : (a n : ℕ) → ((a + 1) % 65536 + n) % 65536 ≡ (a + suc n) % 65536
-    step a n = omega arith
-
--- and its number has that age
-age-held : (t : List ℕ) (j : ℕ) → soundB t ≡ true → j < count t → ageOf t (numberIn (drop j (table.held t))) ≡ j
-age-held t j sd h =
-    let d = sound-head t sd in
-    ap (ageOf t) (number-drop (table.held t) (first t) (count t) j (consecutive t sd) (omega arith) h) ∙ back (first t) j (omega arith) (omega arith)
-  where
-    back : (x n : ℕ) → x < 65536 → n < 1024 → ((x + n) % 65536 + 65536 - x) % 65536 ≡ n
-    back x n a b = omega arith
+age-in t j sd h = rw (drop-held t j h) (age-held t j sd h)
 
 -- a record that is held, matches and has bytes unsent
 pub left-makes : (t : List ℕ) (f : Filter) (n sent : ℕ) → Unsent t f n sent → leftB t f (From n sent) ≡ true
@@ -86,7 +66,7 @@ unfolding leftAt leftB numberIn matchesAt
 found-obeys f t k sd found.Nothing e = refl
 found-obeys f t k sd (found.At j) e =
     let x = next-found f t k j e in
-    let a = age-held t j sd (x .held) in
+    let a = age-in t j sd (x .held) in
     let d = drop-held t j (x .held) in
     left-makes t f (numberIn (drop j (table.held t))) 0 (record {
       held = rw a (x .held);

@@ -1,8 +1,8 @@
 -- What is promised of record access and notifications beyond each call's own equation (document 01, "RACP and notifications"): a refusal
 -- changes nothing, a report begins exactly where something matches, Number counts, and the clock goes on obeying its rules.
 use mathlib.Core.Path.{_≡_}
-use mathlib.Core.Bool.{Bool, true, false, not}
-use mathlib.Core.List.{List, []}
+use mathlib.Core.Bool.{Bool, true, false}
+use mathlib.Core.List.{List, [], _∷_}
 use Prim.Native.Nat.{ℕ}
 use lib.Dec.{eqb}
 use lib.ListN.{length}
@@ -36,6 +36,10 @@ pub record RefusedUnchanged : Type 0 where
   pub notify : (c : Clock) (t : List ℕ) (p : ℕ) (o : List ℕ) → Silent c o (notifyOf c t p o)
   pub record-access : (c : Clock) (t w o : List ℕ) → Untouched c t o (accessOf c t w o)
 
+-- how a write to the RACP is answered: `accessOf`, or a wrong way that a theorem shuts out
+abbrev pub Accessing : Type 0
+Accessing = Clock → List ℕ → List ℕ → List ℕ → Outcome
+
 -- the write is read: none of the rows failed
 abbrev pub Read : Clock → List ℕ → List ℕ → List ℕ → Type 0
 Read c t w o = doneB (firstFailed (accessRows c t w o)) ≡ true
@@ -54,20 +58,18 @@ nothingB t (Refused k) = false
 
 -- "An accepted 1 or 7 is a 0 without response bytes", exactly when a record matches; it begins with the first of them, of which no byte is
 -- sent. "Nothing matching: .. 1 and 7 answer 0x06, and give it in no other case."
-pub record AcceptedWhenMatching : Type 0 where
+pub record AcceptedWhenMatching (s : Accessing) : Type 0 where
   pub report : (c : Clock) (t w o : List ℕ) (f : Filter) → Read c t w o → requestOf w ≡ Report f
-      → accessOf c t w o
+      → s c t w o
       ≡ pick (noneB (matching f t))
       (answered c t (codeBytes (opcodeIn w) NoRecordsFound) o)
       (answered (withRunning c (Reporting (report (opcodeIn w) f 0 (From (numberIn (matching f t)) 0)))) t [] o)
-  pub accepted : (c : Clock) (t w o : List ℕ) (f : Filter) → Read c t w o → requestOf w ≡ Report f
-      → eqb (accessOf c t w o .reply .len) 0 ≡ not (noneB (matching f t))
-  pub no-other : (c : Clock) (t w o : List ℕ) → Read c t w o → nothingFoundB (accessOf c t w o) ≡ nothingB t (requestOf w)
+  pub no-other : (c : Clock) (t w o : List ℕ) → Read c t w o → nothingFoundB (s c t w o) ≡ nothingB t (requestOf w)
 
 -- Number answers 05 00 and how many of the held records match.
-abbrev pub NumberCounts : Type 0
-NumberCounts = (c : Clock) (t w o : List ℕ) (f : Filter) → Read c t w o → requestOf w ≡ Number f
-    → accessOf c t w o ≡ answered c t (countBytes numberResponse (length (matching f t))) o
+abbrev pub NumberCounts : Accessing → Type 0
+NumberCounts s = (c : Clock) (t w o : List ℕ) (f : Filter) → Read c t w o → requestOf w ≡ Number f
+    → s c t w o ≡ answered c t (countBytes numberResponse (length (matching f t))) o
 
 -- The clock obeys its rules, alone and with the table, after each call where it did before: row 2 never ends a report.
 pub record Obeys : Type 0 where

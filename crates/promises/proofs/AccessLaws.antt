@@ -12,17 +12,14 @@ use Rattle.octets.specs.Parts.{over}
 use Rattle.clock.specs.declared.answers.Answer.{Answer}
 use Rattle.clock.specs.declared.state.Clock.{Clock}
 use Rattle.refusals.specs.Outcome.{doneB, answered, Outcome}
-use Rattle.service.specs.Promises.{world}
 use Rattle.refusals.specs.Rows.{firstFailed, idleB, writeRows}
 use Rattle.refusals.proofs.RowLaws.{TableRows, table-done, write-all}
-use Rattle.service.proofs.PromiseLaws.{passed}
 use Rattle.access.specs.Request.{opcodeIn, requestOf}
 use Rattle.asking.specs.declared.record_access.Accessed.{Accessed}
 use Rattle.asking.specs.Access.{accessRows, accessedOf, responseIn, accessOf}
 use Rattle.asking.proofs.AccessLaws.{access-refused, access-done}
-use Rattle.promises.specs.World.{left}
+use Rattle.promises.specs.World.{world, left}
 use Rattle.promises.specs.Reports.{responseTo}
-use Rattle.promises.specs.Hearing.{nothing}
 
 module _ (c : Clock) (t w o : List ℕ) where
   abbrev failed : Answer

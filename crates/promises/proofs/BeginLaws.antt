@@ -2,13 +2,10 @@
 -- Assumes nothing.
 use mathlib.Core.Path.{_≡_, refl, sym, _∙_, ap}
 use mathlib.Core.Bool.{true}
-use mathlib.Core.List.{List, [], _∷_}
+use mathlib.Core.List.{List, []}
 use Prim.Native.Nat.{ℕ}
 use native.Mathlib.Omega.{arith}
-use borrow.Author.Tests.{ne-eqb}
-use lib.Dec.{eqb}
 use lib.ListN.{length}
-use Rattle.octets.specs.Choice.{pick}
 use Rattle.octets.specs.Parts.{Bytes}
 use Rattle.filter.specs.declared.request.Filter.{Filter}
 use Rattle.record.specs.declared.kinds.Record.{Record}
@@ -20,29 +17,19 @@ use Rattle.clock.specs.declared.state.Left.{Left}
 use Rattle.clock.specs.declared.state.Left.the-variants.{From}
 use Rattle.clock.proofs.RuleLaws.{running-makes}
 use Rattle.clock.proofs.EventLaws.{with-running-obeys}
-use Rattle.refusals.specs.Outcome.{doneB, answered}
-use Rattle.service.specs.Promises.{World, world}
+use Rattle.refusals.specs.Outcome.{doneB}
 use Rattle.refusals.proofs.RowLaws.{whole-reads}
-use Rattle.access.specs.Codes.{codeOf}
 use Rattle.access.specs.Request.{opcodeIn, requestOf}
 use Rattle.access.specs.Response.{codeBytes}
 use Rattle.access.specs.declared.request.Request.the-variants.{Report}
 use Rattle.asking.specs.Report.{report, leftFrom}
 use Rattle.asking.specs.Access.{accessed, begunOf, accessedOf, responseIn, accessOf}
-use Rattle.promises.specs.World.{left}
-use Rattle.promises.specs.Reports.{responseTo, AcceptedReport, Accepted, begun}
+use Rattle.promises.specs.World.{World, world}
+use Rattle.promises.specs.Reports.{responseTo, Accepted, begun}
 use Rattle.promises.proofs.HeldLaws.{Stands, none, some, left-stands}
 use Rattle.promises.proofs.RunLaws.{Runs}
 use Rattle.promises.proofs.RequestLaws.{request-report}
 use Rattle.promises.proofs.AccessLaws.{left-done, response-done, rows-passed, answered-passed}
-
--- nothing left is answered with a response, something with none
-module _ (t : List ℕ) (sd : soundB t ≡ true) (opcode : ℕ) (f : Filter) (c : Clock) where
-  begun-response : {rest : Left} {sent : ℕ} {l : List Record} → Stands t sd f rest sent l
-      → responseIn (begunOf c opcode f rest) ≡ pick (eqb (length l) 0) (6 ∷ 0 ∷ opcode ∷ 6 ∷ []) []
-  unfolding begunOf accessed codeBytes codeOf
-  begun-response none = refl
-  begun-response (some {x = x} {rest = rest} h) = rw (ne-eqb (length (x ∷ rest)) 0 (λ e. omega arith))
 
 -- a report that is accepted runs
 module _ (t : List ℕ) (sd : soundB t ≡ true) (hb : Bytes t) (opcode : ℕ) (f : Filter) (c : Clock) (ok : clockB c ≡ true)
@@ -82,11 +69,6 @@ answered-report v w o f hb q h =
       response = rw q at (response-done c t w o done);
       after = rw q at (left-done c t w o done);
     }
-
-pub accepted-report : AcceptedReport
-accepted-report v w o f hb q h =
-    let a = answered-report v w o f hb q h in
-    a .response ∙ begun-response (v .table) (a .sound) (opcodeIn w) f (v .clock) (a .stands)
 
 -- the world of an accepted report
 pub record Begun (v : World) (w o : List ℕ) (f : Filter) (hb : Bytes (v .table)) : Type 0 where

@@ -11,10 +11,9 @@ use Rattle.record.specs.declared.kinds.Record.{Record}
 use Rattle.table.specs.Table.{soundB}
 use Rattle.clock.specs.declared.state.Clock.{Clock}
 use Rattle.clock.specs.declared.state.Running.{Running}
-use Rattle.service.specs.Promises.{world}
 use Rattle.refusals.specs.Rows.{idleB}
-use Rattle.promises.specs.World.{Call}
-use Rattle.promises.specs.Hearing.{nothing, undisturbedB, calmB, allCalmB}
+use Rattle.promises.specs.World.{world, Call}
+use Rattle.promises.specs.Hearing.{undisturbedB, calmB, allCalmB}
 use Rattle.promises.specs.Reports.{askingsB}
 use Rattle.promises.proofs.RunLaws.{Runs, closes, last, more}
 use Rattle.promises.proofs.StepLaws.{Step, still, asked, ended, step}

@@ -12,7 +12,7 @@ use Rattle.octets.specs.Numbers.{at}
 use Rattle.octets.specs.Parts.{Bytes}
 use Rattle.octets.proofs.Tests.{both-reads}
 use Rattle.filter.specs.declared.request.Filter.the-variants.{All}
-use Rattle.service.specs.Promises.{world}
+use Rattle.promises.specs.World.{world}
 use Rattle.promises.specs.Reports.{Accepted}
 use Rattle.promises.specs.Cases.{table, records, reader, output, resultBy, Computed}
 

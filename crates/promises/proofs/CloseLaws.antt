@@ -16,10 +16,9 @@ use Rattle.layout.specs.Layout.{bytesOf}
 use Rattle.record.specs.declared.kinds.Record.{Record}
 use Rattle.table.specs.Table.{soundB}
 use Rattle.clock.specs.declared.state.Clock.{Clock}
-use Rattle.service.specs.Promises.{world}
 use Rattle.transfer.specs.Notify.{roomB}
-use Rattle.promises.specs.World.{Call, seconds, switches, disconnect, fault, timeUpdate, recordAccess, notify}
-use Rattle.promises.specs.Hearing.{segment, closing, Hearing, onward, hearingBy, hearingOf}
+use Rattle.promises.specs.World.{world, Call, seconds, switches, disconnect, fault, timeUpdate, recordAccess, notify}
+use Rattle.promises.specs.Hearing.{segment, Hearing, onward, hearingBy, hearingOf}
 use Rattle.promises.specs.Reports.{askingB, askingsB, longB, pieces, segments, Exact}
 use Rattle.promises.proofs.RunLaws.{Runs, Told, closes, last, more, told}
 use Rattle.promises.proofs.HeardLaws.{room-reads, hears, closing-heard}

@@ -19,7 +19,6 @@ use Rattle.record.specs.declared.kinds.Reading.the-variants.{Is}
 use Rattle.coding.proofs.RoundTrip.{length-bytes}
 use Rattle.table.specs.Table.{soundB}
 use Rattle.clock.specs.declared.state.Clock.{Clock}
-use Rattle.service.specs.Promises.{World, world}
 use Rattle.refusals.specs.Rows.{idleB}
 use Rattle.asking.specs.Report.{bytesIn}
 use Rattle.transfer.specs.Notify.{roomB}
@@ -27,7 +26,7 @@ use Rattle.tablet.specs.Joining.{joined, joinOf, recordIn}
 use Rattle.tablet.specs.declared.joining.Answer.{Answer}
 use Rattle.tablet.specs.declared.joining.Answer.the-variants.{Whole}
 use Rattle.tablet.specs.declared.joining.Joining.{Joining}
-use Rattle.promises.specs.World.{Call, stepOf}
+use Rattle.promises.specs.World.{World, world, Call, stepOf}
 use Rattle.promises.specs.Hearing.{Heard, nothing, segment, closing, heardOf, Hearing, hearing, onward, hearingBy, hearingOf, undisturbedB}
 use Rattle.promises.specs.Joined.{Got, add, joinAll}
 use Rattle.promises.proofs.JoinLaws.{Synced, join-last, join-more}

@@ -1,16 +1,15 @@
 -- The held records of a sound table: a record's number tells its age, and its bytes read back.
 -- Assumes nothing.
-use mathlib.Core.Path.{_≡_, refl, sym, _∙_, ap}
+use mathlib.Core.Path.{_≡_, refl, _∙_, ap}
 use mathlib.Core.Bool.{Bool, true, false}
 use mathlib.Core.List.{List, [], _∷_}
-use Prim.Native.Nat.{ℕ, zero, suc, _+_, _-_, _%_, _<_, _≤_}
+use Prim.Native.Nat.{ℕ, zero, suc, _+_, _-_, _<_, _≤_}
 use native.Mathlib.Omega.{arith}
 use borrow.Author.Tests.{ltb-true, ltb-false}
 use lib.Dec.{ltb}
 use lib.ListN.{length, take, drop}
 use Rattle.octets.specs.Numbers.{at}
 use Rattle.octets.specs.Parts.{Bytes}
-use Rattle.octets.proofs.Tests.{both-reads}
 use Rattle.octets.proofs.PartLaws.{bytes-take, bytes-drop}
 use Rattle.filter.specs.Filter.{matchesB}
 use Rattle.filter.specs.declared.request.Filter.{Filter}
@@ -20,33 +19,13 @@ use Rattle.coding.specs.WellFormed.{wellFormedB, readOf}
 use Rattle.record.specs.declared.kinds.Record.{Record}
 use Rattle.record.specs.declared.kinds.Reading.the-variants.{Is}
 use Rattle.coding.proofs.RoundTrip.{write-back, length-bytes}
-use Rattle.table.specs.Table.{count, next, oldest, slot, slots, bytesIn, recordIn, ring, held, slotB, rowB, after, first, ageOf, soundB, nextSlot, steps}
+use Rattle.table.specs.Table.{count, oldest, slot, bytesIn, recordIn, held, ageOf, soundB, steps}
 use Rattle.held.specs.Matching.{matchingFrom, matchesAt}
-use Rattle.table.proofs.HeadLaws.{sound-reads, sound-head}
-use Rattle.table.proofs.RowLaws.{Slot, slot-reads}
-use Rattle.held.proofs.LookLaws.{slotAt, drop-held, matching-yes, matching-no, match-first, none-left, next-here, next-later, next-none}
+use Rattle.table.proofs.SlotLaws.{slotAt, held-slot}
+use Rattle.held.proofs.LookLaws.{age-held, drop-held, matching-yes, matching-no, match-first, none-left, next-here, next-later, next-none}
 use Rattle.clock.specs.declared.state.Left.{Left}
 use Rattle.clock.specs.declared.state.Left.the-variants.{Nothing, From}
 use Rattle.asking.specs.Report.{numberIn, leftAt, leftFrom}
-
-number-start : (s : ℕ) → s < 65536 → s ≡ (s + 0) % 65536
-number-start s h = omega arith
-
-number-step : (s k : ℕ) → ((s + 1) % 65536 + k) % 65536 ≡ (s + suc k) % 65536
-number-step s k = omega arith
-
--- the slot of each age has its number
-row-slot : (k n : ℕ) (t : List ℕ) (o s : ℕ) → k < n → s < 65536 → rowB (slots n t o) s ≡ true
-    → slotB (slot t (steps k (length t) o)) ((s + k) % 65536) ≡ true
-unfolding slots rowB steps
-row-slot k zero t o s h small r = absurd (omega arith)
-row-slot zero (suc n) t o s h small r = rw (sym (number-start s small)) (both-reads (slotB (slot t o) s) _ r .0)
-row-slot (suc k) (suc n) t o s h small r =
-    ap (slotB (slot t (steps k (length t) (nextSlot (length t) o)))) (sym (number-step s k))
-    ∙ row-slot k n t (nextSlot (length t) o) (after s) (omega arith) (omega arith) (both-reads (slotB (slot t o) s) _ r .1)
-
-age-number : (s k : ℕ) → s < 65536 → k < 1024 → ((s + k) % 65536 + 65536 - s) % 65536 ≡ k
-age-number s k a b = omega arith
 
 read-well : (b : List ℕ) → wellFormedB b ≡ true → readOf b ≡ Is (recordOf b)
 unfolding readOf
@@ -58,27 +37,11 @@ bytes-slot t o h =
     let s = take 64 (drop o t) in bytes-take (at s 0) (drop 1 s) (bytes-drop 1 s (bytes-take 64 (drop o t) (bytes-drop o t h)))
 
 module _ (t : List ℕ) (sd : soundB t ≡ true) where
-  small : first t < 65536
-  small = less (next t + 65536 - count t)
-    where
-      less : (n : ℕ) → n % 65536 < 65536
-      less n = omega arith
-
-  held-slot : (k : ℕ) → k < count t → Slot (slotAt t k) ((first t + k) % 65536)
-  unfolding ring
-  held-slot k h = slot-reads _ _ (row-slot k (count t) t (oldest t) (first t) h small (sound-reads t sd .row))
-
-  -- "sequence numbers rise by 1": from its number a held record's age
-  pub age-held : (k : ℕ) → k < count t → ageOf t (sequenceOf (recordIn (slotAt t k))) ≡ k
-  age-held k h =
-      let d = sound-head t sd in
-      ap (ageOf t) (held-slot k h .number) ∙ age-number (first t) k small (omega arith)
-
   -- the bytes of a held record read back as that record
   pub held-reads : (k : ℕ) → Bytes t → k < count t → readOf (bytesOf (recordIn (slotAt t k))) ≡ Is (recordIn (slotAt t k))
   unfolding recordIn
   held-reads k hb h =
-      let x = read-well (bytesIn (slotAt t k)) (held-slot k h .well) in
+      let x = read-well (bytesIn (slotAt t k)) (held-slot t k sd h .well) in
       ap readOf (write-back (bytesIn (slotAt t k)) _ (bytes-slot t (steps k (length t) (oldest t)) hb) x) ∙ x
 
   -- What a report has left, as a list: its next record and then those that match after it. `sent` bytes of the next one are sent.
@@ -103,7 +66,7 @@ module _ (t : List ℕ) (sd : soundB t ≡ true) where
         → Here f (sequenceOf (recordIn (slotAt t k))) 0 (recordIn (slotAt t k)) (matchingFrom f (count t) (k + 1) (drop (k + 1) (held t)))
     first-here k h m =
         let e = drop-held t k h in
-        let a = age-held k h in
+        let a = age-held t k sd h in
         record {
           inside = rw a h;
           here = rw a e;

@@ -1,3 +1,4 @@
+pub mod GoodLaws
 pub mod HeldLaws
 pub mod JoinLaws
 pub mod RequestLaws

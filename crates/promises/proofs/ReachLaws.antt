@@ -1,7 +1,7 @@
 -- Record access and notifications change the running report at most, into one that obeys its rules; so every call leads from a good world
 -- to a good one. Assumes nothing.
 use mathlib.Core.Path.{_≡_, refl, _∙_}
-use mathlib.Core.Bool.{Bool, true, false, not}
+use mathlib.Core.Bool.{Bool, true, false}
 use mathlib.Core.List.{List, [], _∷_}
 use Prim.Native.Nat.{ℕ, _+_, _-_, _<_}
 use native.Mathlib.Omega.{arith}
@@ -24,24 +24,21 @@ use Rattle.clock.specs.declared.state.Running.the-variants.{Idle, Reporting}
 use Rattle.clock.proofs.RuleLaws.{clock-reads, running-reads, running-makes}
 use Rattle.clock.proofs.EventLaws.{with-running-obeys}
 use Rattle.refusals.specs.Outcome.{doneB}
-use Rattle.service.specs.Promises as service
-use Rattle.service.specs.Promises.{World, world, started, Good}
 use Rattle.refusals.specs.Rows.{firstFailed, unsentB, leftB}
 use Rattle.refusals.specs.Rows as rows
-use Rattle.service.proofs.ReachLaws.{kept, started-good}
-use Rattle.service.proofs.ReachLaws as services
 use Rattle.access.specs.Request.{opcodeIn}
 use Rattle.access.specs.declared.request.Request.{Request}
 use Rattle.asking.specs.Report.{report, bytesIn, leftFrom}
 use Rattle.asking.specs.Access.{accessRows, accessed, begunOf, abortedOf, accessedOf}
 use Rattle.transfer.specs.Notify.{notifyRows, counterAfter, lastB, leftAfter, saidOf, unsaid, noticed, runningNotice, notifyOf}
-use Rattle.promises.specs.World.{Call, seconds, switches, disconnect, fault, timeUpdate, recordAccess, notify, stepBy, stepOf, runOf}
+use Rattle.promises.specs.World.{World, world, newWorld, Call, seconds, switches, disconnect, fault, timeUpdate, recordAccess, notify, stepBy, stepOf, runOf}
+use Rattle.promises.proofs.GoodLaws.{kept, seconds-good, switches-good, disconnect-good, fault-good, update-good, new-good}
 use Rattle.promises.proofs.RequestLaws.{Right, reports, numbers, ends, refuses, request-right}
 use Rattle.promises.proofs.HeldLaws.{left-stands}
 use Rattle.promises.proofs.RunLaws.{left-ok}
 use Rattle.promises.proofs.AccessLaws.{left-refused, left-done}
 use Rattle.promises.proofs.ReportLaws.{heard-report, calm-calls}
-use Rattle.promises.specs.Reach.{Reachable, ReachedReport}
+use Rattle.promises.specs.Reach.{Good, Reachable, ReachedReport}
 
 -- the clock and the table as they were, but for the report
 pub data Turned (v : World) : World → Type 0 where
@@ -142,12 +139,12 @@ notify-turned v p o g = go (doneB (firstFailed (notifyRows (v .clock) (v .table)
     go false = same
 
 pub call-good : (v : World) (k : Call) → Good v → Good (stepOf v k)
-unfolding stepBy service.stepOf
-call-good v (seconds n) g = services.step-good v (service.seconds n) g
-call-good v (switches a b d) g = services.step-good v (service.switches a b d) g
-call-good v disconnect g = services.step-good v service.disconnect g
-call-good v (fault o) g = services.step-good v (service.fault o) g
-call-good v (timeUpdate w o h) g = services.step-good v (service.timeUpdate w o h) g
+unfolding stepBy
+call-good v (seconds n) g = seconds-good v n g
+call-good v (switches a b d) g = switches-good v a b d g
+call-good v disconnect g = disconnect-good v g
+call-good v (fault o) g = fault-good v o g
+call-good v (timeUpdate w o h) g = update-good v w o h g
 call-good v (recordAccess w o) g = turned-good g (access-turned v w o g)
 call-good v (notify p o) g = turned-good g (notify-turned v p o g)
 
@@ -157,10 +154,10 @@ calls-good [] v g = g
 calls-good (k ∷ ks) v g = calls-good ks (stepOf v k) (call-good v k g)
 
 pub reachable : Reachable
-reachable t ks h = calls-good ks (started t) (started-good t h)
+reachable t ks h = calls-good ks (newWorld t) (new-good t h)
 
 pub reached-report : ReachedReport
 reached-report t before ks w o f h a c =
-    let v = runOf (started t) before in
+    let v = runOf (newWorld t) before in
     let b = reachable t before h .bytes in
     heard-report v w o f ks b a (calm-calls v w o f ks b a c)

@@ -30,7 +30,6 @@ use Rattle.clock.specs.declared.state.Running.the-variants.{Reporting}
 use Rattle.clock.proofs.RuleLaws.{clock-reads, running-reads, running-makes}
 use Rattle.clock.proofs.EventLaws.{with-running-obeys}
 use Rattle.refusals.specs.Outcome.{doneB}
-use Rattle.service.specs.Promises.{world}
 use Rattle.refusals.specs.Rows.{firstFailed, leftB, wholeB, tableRows}
 use Rattle.refusals.specs.Rows as rows
 use Rattle.refusals.proofs.RowLaws.{left-held}
@@ -38,7 +37,7 @@ use Rattle.access.specs.Response.{codeBytes, countBytes}
 use Rattle.access.specs.declared.codes.Code.the-variants.{Success}
 use Rattle.asking.specs.Report.{report, bytesIn, leftFrom}
 use Rattle.transfer.specs.Notify.{roomB, notifyRows, counterAfter, lastB, segmentOf, leftAfter, closingOf, Said, saidOf, Notice, unsaid, noticed, runningNotice, notifyOf}
-use Rattle.promises.specs.World.{notify, stepBy, stepOf}
+use Rattle.promises.specs.World.{world, notify, stepBy, stepOf}
 use Rattle.promises.specs.Hearing.{nothing, segment, closing, heardIn, heardBy, heardOf}
 use Rattle.promises.proofs.HeldLaws.{Here, Stands, none, some, left-stands}
 

@@ -1,7 +1,7 @@
 -- One call in the middle of a report: a notification that is taken, a call that leaves report and table as they are, or one that ends it.
 -- Assumes nothing.
 use mathlib.Core.Path.{_≡_, refl, _∙_, ap}
-use mathlib.Core.Bool.{Bool, true, false, not}
+use mathlib.Core.Bool.{Bool, true, false}
 use mathlib.Core.List.{List}
 use Prim.Native.Nat.{ℕ}
 use borrow.Author.Tests.{eqb-true}
@@ -20,7 +20,6 @@ use Rattle.clock.proofs.EventLaws.{Seconds, refuses-2, refuses-7, rises, Change
 use Rattle.clock.proofs.PromiseLaws.{obeys}
 use Rattle.service.specs.Fault.{faultedOf}
 use Rattle.refusals.specs.Outcome.{Outcome, doneB, answered}
-use Rattle.service.specs.Promises.{World, world}
 use Rattle.refusals.specs.Rows.{firstFailed, idleB, tableRows}
 use Rattle.service.specs.Update.{updateRows}
 use Rattle.service.proofs.FaultLaws.{fault-refused, fault-done}
@@ -28,11 +27,9 @@ use Rattle.service.proofs.PromiseLaws.{passed}
 use Rattle.service.proofs.UpdateLaws.{update-refused}
 use Rattle.access.specs.Request.{opcodeIn, requestOf}
 use Rattle.access.specs.declared.request.Request.{Request}
-use Rattle.access.specs.declared.request.Request.the-variants.{Abort}
-use Rattle.asking.specs.Report.{report}
 use Rattle.asking.specs.Access.{accessRows, accessed, abortedOf, accessedOf, accessOf}
 use Rattle.transfer.specs.Notify.{roomB, Notice}
-use Rattle.promises.specs.World.{Call, seconds, switches, disconnect, fault, timeUpdate, recordAccess, notify, left, stepBy, stepOf}
+use Rattle.promises.specs.World.{World, world, Call, seconds, switches, disconnect, fault, timeUpdate, recordAccess, notify, left, stepBy, stepOf}
 use Rattle.promises.specs.Hearing.{nothing, heardIn, heardBy, heardOf, calmB}
 use Rattle.promises.proofs.RequestLaws.{Right, reports, numbers, ends, refuses, request-right}
 use Rattle.promises.proofs.AccessLaws.{left-refused, left-done, rows-passed}

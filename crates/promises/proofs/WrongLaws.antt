@@ -15,9 +15,8 @@ use Rattle.clock.specs.declared.state.Report.{Report}
 use Rattle.clock.specs.declared.state.Left.{Left}
 use Rattle.clock.specs.declared.state.Running.{Running}
 use Rattle.clock.specs.declared.state.Running.the-variants.{Idle, Reporting}
-use Rattle.service.specs.Promises.{world}
 use Rattle.transfer.specs.Notify.{roomB, Said, saidOf, noticed, runningNotice, notifyOf, segmentOf}
-use Rattle.promises.specs.World.{Notifying}
+use Rattle.promises.specs.World.{world, Notifying}
 use Rattle.promises.specs.Hearing.{hearingBy}
 use Rattle.promises.specs.Joined.{Got}
 use Rattle.promises.specs.Reports.{begun, askingB, askingsB, Finished, FinishedReport}

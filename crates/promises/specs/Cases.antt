@@ -4,44 +4,26 @@ use mathlib.Core.Bool.{Bool, true, false}
 use mathlib.Core.List.{List, [], _∷_, map}
 use Prim.Native.Nat.{ℕ}
 use lib.ListN.{length, take, drop, replicate}
-use Rattle.octets.specs.Parts.{zerosB, over, Bytes}
-use Rattle.rules.specs.Rules.{baseB, zoneB, dstB, sourceB, statusB, bitsB}
-use Rattle.filter.specs.Filter.{matchesB}
+use Rattle.octets.specs.Parts.{Bytes}
 use Rattle.filter.specs.declared.request.Filter.the-variants.{All, Range}
-use Rattle.record.specs.Fields.{sequenceOf}
-use Rattle.layout.specs.Layout.{updateBytes, faultBytes, bytesOf, updateAt, faultAt, recordOf, sizedB, shapeB}
-use Rattle.coding.specs.WellFormed.{updateB, faultB, recordB, wellFormedB, readOf}
 use Rattle.record.specs.declared.kinds.Record.{Record}
 use Rattle.record.specs.declared.kinds.Record.the-variants.{TimeUpdate, TimeFault}
 use Rattle.record.specs.declared.kinds.Reading.the-variants.{Is}
-use Rattle.table.specs.Table.{sizeB, startB, emptyB, fieldsB, headB, slot, bytesIn, recordIn, slots, ring, held, slotB, rowB, soundB, steps}
-use Rattle.log.specs.Writing.{fresh, placeOf, slotOf, headerAfter, appendOf, logAll}
-use Rattle.held.specs.Matching.{firstFrom, nextMatch, matchingFrom, matching}
+use Rattle.log.specs.Writing.{fresh, logAll}
 use Rattle.clock.specs.Answers.{numberOf}
-use Rattle.clock.specs.Rules.{opcodeB, filterB, counterB, reportB, timeB, clockB}
-use Rattle.clock.specs.Rules as clocks
-use Rattle.clock.specs.Events.{unlessBroken, withBase, secondsOf, switchesOf, onOff}
+use Rattle.clock.specs.Events.{onOff}
 use Rattle.clock.specs.declared.state.Clock.{Clock}
 use Rattle.clock.specs.declared.state.Running.the-variants.{Idle}
-use Rattle.service.specs.Fault.{countAfter, faultRecord, faultedOf, endingOf, faultOf}
-use Rattle.refusals.specs.Outcome.{doneB, answered}
-use Rattle.service.specs.Promises.{world}
-use Rattle.refusals.specs.Rows.{firstFailed, leftB, wholeB, tableRows, writeRows}
-use Rattle.refusals.specs.Rows as rows
-use Rattle.service.specs.Update.{updateRows, updateOf}
-use Rattle.access.specs.Codes.{codeOf}
-use Rattle.access.specs.Request.{operandBytes, typedB, filterAt, operandOf, askedOf, abortOf, requestOf}
-use Rattle.access.specs.Response.{codeBytes, countBytes}
+use Rattle.access.specs.Request.{requestOf}
 use Rattle.access.specs.declared.request.Request.{Request}
 use Rattle.access.specs.declared.request.Request.the-variants.{Report}
-use Rattle.asking.specs.Report.{numberIn, leftAt, leftFrom}
-use Rattle.asking.specs.Report as reports
-use Rattle.asking.specs.Access.{accessRows, accessed, begunOf, abortedOf, accessedOf, accessOf}
-use Rattle.transfer.specs.Notify.{roomB, notifyRows, headerOf, segmentOf, leftAfter, closingOf, saidOf, noticed, runningNotice, notifyOf}
-use Rattle.tablet.specs.Joining.{emptyJoining, rangesB, filledB, placedB, followsB, standing, takesB, ground, takenOf, joinOf}
-use Rattle.promises.specs.World.{Call, seconds, switches, fault, recordAccess, notify, Notifying, stepBy}
+use Rattle.asking.specs.Access.{accessOf}
+use Rattle.transfer.specs.Notify.{notifyOf}
+use Rattle.tablet.specs.Joining.{emptyJoining}
+use Rattle.promises.specs.World.{world, Call, seconds, switches, fault, recordAccess, notify, Notifying}
 use Rattle.promises.specs.Hearing.{heardIn, heardBy, hearingBy, undisturbedB}
 use Rattle.promises.specs.Joined.{Got, got, joinAll}
+use Rattle.promises.specs.Open.{callsOpen, joiningOpen}
 use Rattle.promises.specs.Reports.{Accepted, begun}
 
 -- what came of a write and the calls after it: what it asks for, the number that answers it and the length of its response; that no call ended the report; each
@@ -88,7 +70,7 @@ records =
     ∷ []
 
 unfoldable pub table : List ℕ
-unfolding logAll appendOf fresh over steps placeOf slotOf headerAfter bytesOf updateBytes faultBytes set failed records
+unfolding callsOpen logAll set failed records
 table = logAll (fresh 3) (set 0 800000000 631152000 ∷ records)
 
 -- its reader, all switches on
@@ -107,21 +89,7 @@ abbrev pub ask : ℕ → Call
 ask p = notify p output
 
 unfoldable pub resultBy : Notifying → List ℕ → List Call → Result
-unfolding table reader
-    zerosB over
-    baseB zoneB dstB sourceB statusB bitsB
-    matchesB
-    sequenceOf updateBytes faultBytes bytesOf updateAt faultAt recordOf sizedB shapeB updateB faultB recordB wellFormedB readOf
-    sizeB startB emptyB fieldsB headB slot bytesIn recordIn slots ring held slotB rowB soundB steps placeOf slotOf headerAfter appendOf
-    firstFrom nextMatch matchingFrom matching
-    numberOf opcodeB filterB counterB reportB timeB clockB unlessBroken withBase secondsOf switchesOf clocks.runningB
-    countAfter faultRecord faultedOf endingOf faultOf doneB answered firstFailed leftB wholeB tableRows writeRows updateRows updateOf
-    rows.runningB
-    codeOf operandBytes typedB filterAt operandOf askedOf abortOf requestOf codeBytes countBytes
-    numberIn leftAt leftFrom accessRows accessed begunOf abortedOf accessedOf accessOf roomB notifyRows headerOf segmentOf
-    leftAfter closingOf saidOf noticed runningNotice notifyOf reports.bytesIn
-    emptyJoining rangesB filledB placedB followsB standing takesB ground takenOf joinOf
-    stepBy heardIn heardBy hearingBy undisturbedB joinAll
+unfolding table reader callsOpen joiningOpen heardIn heardBy hearingBy undisturbedB
 resultBy n w ks =
     let v = world reader table in
     let a = accessOf reader table w output in

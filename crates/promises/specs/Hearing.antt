@@ -6,13 +6,12 @@ use Prim.Native.Nat.{ℕ}
 use lib.ListN.{take}
 use Rattle.octets.specs.Choice.{both, pick}
 use Rattle.refusals.specs.Outcome.{doneB}
-use Rattle.service.specs.Promises.{World}
 use Rattle.refusals.specs.Rows.{idleB}
 use Rattle.access.specs.Request.{requestOf}
 use Rattle.access.specs.declared.request.Request.{Request}
 use Rattle.access.specs.declared.request.Request.the-variants.{Report, Number, Abort, Refused}
 use Rattle.transfer.specs.Notify.{Notice, notifyOf}
-use Rattle.promises.specs.World.{Call, seconds, switches, disconnect, fault, timeUpdate, recordAccess, notify, Notifying, stepBy, stepOf}
+use Rattle.promises.specs.World.{World, Call, seconds, switches, disconnect, fault, timeUpdate, recordAccess, notify, Notifying, stepBy, stepOf}
 
 pub data Heard : Type 0 where
   nothing : Heard

@@ -1,6 +1,7 @@
 pub mod World
 pub mod Hearing
 pub mod Joined
+pub mod Open
 pub mod Reports
 pub mod Cases
 pub mod Wrong

@@ -2,22 +2,33 @@
 use mathlib.Core.Path.{_≡_}
 use mathlib.Core.Bool.{true}
 use mathlib.Core.List.{List}
-use Prim.Native.Nat.{ℕ}
+use Prim.Native.Nat.{ℕ, _<_}
 use lib.ListN.{length}
+use Rattle.octets.specs.Parts.{Bytes}
 use Rattle.filter.specs.declared.request.Filter.{Filter}
-use Rattle.table.specs.Table.{sizeB}
-use Rattle.service.specs.Promises.{started, Good}
-use Rattle.promises.specs.World.{Call, runOf}
+use Rattle.table.specs.Table.{sizeB, next, soundB}
+use Rattle.clock.specs.Rules.{clockB}
+use Rattle.refusals.specs.Rows.{runningB}
+use Rattle.promises.specs.World.{World, newWorld, Call, runOf}
 use Rattle.promises.specs.Hearing.{hearingOf, allCalmB}
 use Rattle.promises.specs.Reports.{Accepted, begun, Hears}
+
+-- The clock obeys its rules, alone and with the table; the table is sound, and every byte of it a byte.
+pub record Good (v : World) : Type 0 where
+  pub clock : clockB (v .clock) ≡ true
+  pub running : runningB (v .table) (v .clock .running) ≡ true
+  pub faults : v .clock .time .faults < 65536
+  pub sound : soundB (v .table) ≡ true
+  pub next : next (v .table) < 65536
+  pub bytes : Bytes (v .table)
 
 -- Theorem Reachable, over every call of the server: from start the clock obeys its rules, alone and with the table; the table is sound, and every
 -- byte of it a byte.
 abbrev pub Reachable : Type 0
-Reachable = (t : List ℕ) (ks : List Call) → sizeB (length t) ≡ true → Good (runOf (started t) ks)
+Reachable = (t : List ℕ) (ks : List Call) → sizeB (length t) ≡ true → Good (runOf (newWorld t) ks)
 
 -- Theorem Reached report: from start, over any calls, an accepted report, heard among any calls without a disconnect, a fault and an Abort.
 abbrev pub ReachedReport : Type 0
 ReachedReport = (t : List ℕ) (before ks : List Call) (w o : List ℕ) (f : Filter) → sizeB (length t) ≡ true
-    → Accepted (runOf (started t) before) w o f → allCalmB ks ≡ true
-    → Hears (runOf (started t) before .table) w f (hearingOf (begun (runOf (started t) before) w o) ks)
+    → Accepted (runOf (newWorld t) before) w o f → allCalmB ks ≡ true
+    → Hears (runOf (newWorld t) before .table) w f (hearingOf (begun (runOf (newWorld t) before) w o) ks)

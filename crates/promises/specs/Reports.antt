@@ -1,12 +1,11 @@
--- The theorems about reports (document 01, "RACP and notifications"): Accepted report, Heard report, Calm calls, and Finished report, for
--- which a way of notifying is left open, so that wrong ways can be shown wrong.
+-- The theorems about reports (document 01, "RACP and notifications"): Heard report, Calm calls, and Finished report, for which a way of notifying is left open, so that wrong ways can be shown wrong.
 use mathlib.Core.Path.{_≡_}
 use mathlib.Core.Bool.{Bool, true, false}
 use mathlib.Core.List.{List, [], _∷_, map}
 use Prim.Native.Nat.{ℕ, _+_, _-_, _/_, _≤_, _<_}
 use lib.Dec.{leb, ltb, eqb}
 use lib.ListN.{length, take}
-use Rattle.octets.specs.Choice.{both, either, pick}
+use Rattle.octets.specs.Choice.{both, either}
 use Rattle.octets.specs.Numbers.{bytes2}
 use Rattle.octets.specs.Parts.{Bytes}
 use Rattle.filter.specs.declared.request.Filter.{Filter}
@@ -15,26 +14,18 @@ use Rattle.record.specs.declared.kinds.Record.{Record}
 use Rattle.record.specs.declared.kinds.Reading.the-variants.{Is}
 use Rattle.held.specs.Matching.{matching}
 use Rattle.refusals.specs.Outcome.{doneB}
-use Rattle.service.specs.Promises.{World}
 use Rattle.access.specs.Request.{opcodeIn, requestOf}
 use Rattle.access.specs.declared.request.Request.the-variants.{Report}
 use Rattle.asking.specs.Access.{accessOf}
 use Rattle.transfer.specs.Notify.{roomB}
 use Rattle.tablet.specs.Joining.{emptyJoining}
-use Rattle.promises.specs.World.{Call, seconds, switches, disconnect, fault, timeUpdate, recordAccess, notify, Notifying, left}
+use Rattle.promises.specs.World.{World, Call, seconds, switches, disconnect, fault, timeUpdate, recordAccess, notify, Notifying, left}
 use Rattle.promises.specs.Hearing.{Hearing, hearingBy, hearingOf, undisturbedB, allCalmB}
 use Rattle.promises.specs.Joined.{got, joinAll}
 
 -- the bytes that answer a record access
 abbrev pub responseTo : World → List ℕ → List ℕ → List ℕ
 responseTo v w o = let u = accessOf (v .clock) (v .table) w o in take (u .reply .len) (u .output)
-
--- Theorem Accepted report: of a report that no row refuses, "Nothing matching: .. 1 and 7 answer 0x06, and give it in no other case"; "An
--- accepted 1 or 7 is a 0 without response bytes".
-abbrev pub AcceptedReport : Type 0
-AcceptedReport = (v : World) (w o : List ℕ) (f : Filter) → Bytes (v .table) → requestOf w ≡ Report f
-    → doneB (accessOf (v .clock) (v .table) w o .reply .answer) ≡ true
-    → responseTo v w o ≡ pick (eqb (length (matching f (v .table))) 0) (6 ∷ 0 ∷ opcodeIn w ∷ 6 ∷ []) []
 
 -- A report that was accepted: "An accepted 1 or 7 is a 0 without response bytes." That the table was sound and the clock obeyed its rules
 -- follows: rows 1 and 2 were passed.

@@ -5,12 +5,23 @@ use Prim.Native.Nat.{ℕ}
 use Rattle.octets.specs.Parts.{Bytes}
 use Rattle.clock.specs.Events.{secondsOf, switchesOf, disconnectOf}
 use Rattle.clock.specs.declared.state.Clock.{Clock}
-use Rattle.service.specs.Fault.{faultOf}
 use Rattle.refusals.specs.Outcome.{Outcome}
-use Rattle.service.specs.Promises.{World, world}
+use Rattle.service.specs.Start.{newReaderOf}
+use Rattle.service.specs.Fault.{faultOf}
 use Rattle.service.specs.Update.{updateOf}
 use Rattle.asking.specs.Access.{accessOf}
 use Rattle.transfer.specs.Notify.{Notice, notifyOf}
+
+pub record World : Type 0 where
+  pub clock : Clock
+  pub table : List ℕ
+
+abbrev pub world : Clock → List ℕ → World
+world c t = record { clock = c; table = t }
+
+-- A new reader: the clock and the table that the start call leaves of a buffer. A buffer that it refuses is the table as it was.
+abbrev pub newWorld : List ℕ → World
+newWorld t = let b = newReaderOf t in world (b .event .clock) (b .table)
 
 -- Every call of the server with what it is lent: o is the output, w a write, p a payload size. A write to the DTCP is bytes.
 pub data Call : Type 0 where

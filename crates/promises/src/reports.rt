@@ -1,13 +1,8 @@
 // The theorems about reports: each the promise of an empty function, so that the check asks for its proof.
 ghost use Rattle.transfer.specs.Notify.{notifyOf};
-ghost use Rattle.promises.specs.Reports.{AcceptedReport, FinishedReport, HeardReport, CalmCalls};
+ghost use Rattle.promises.specs.Reports.{FinishedReport, HeardReport, CalmCalls};
 ghost use Rattle.promises.specs.Cases.{Computed};
 ghost use Rattle.promises.specs.Wrong.{ShutOut};
-
-// A report is accepted exactly where a held record matches.
-pub fn accepted_report()
-    ensures { λ _. ⌜ AcceptedReport ⌝ }
-{}
 
 // An accepted report asked for with any payload sizes gives exactly the matching held records.
 pub fn finished_report()

@@ -8,11 +8,10 @@ use native.Mathlib.Omega.{arith}
 use lib.Dec.{eqb}
 use lib.IntN.{ℤ, pos, _+ℤ_, _-ℤ_, +ℤ-comm, +ℤ-negℤ-cancel, -ℤ-+ℤ-cancel}
 use Rattle.octets.proofs.Tests.{clash}
-use Rattle.service.specs.Promises.{World}
 use Rattle.carry.specs.Carry.{numberOf, noFaultB}
 use Rattle.carry.specs.declared.stamp.Carried.{Carried}
 use Rattle.carry.specs.declared.stamp.Carried.the-variants.{To, TableNotSound, NotHeld, FaultAmong, PastRange}
-use Rattle.promises.specs.World.{Call}
+use Rattle.promises.specs.World.{World, Call}
 use Rattle.stamps.specs.Stamps.{loggedOf, Carrying, carriedAfter, allHeldB, Carries}
 use Rattle.stamps.specs.Wrong.{OneCarrying}
 

@@ -16,15 +16,14 @@ use Rattle.record.specs.declared.kinds.Record.{Record}
 use Rattle.record.specs.declared.kinds.Record.the-variants.{TimeUpdate, TimeFault}
 use Rattle.table.specs.Table.{slotsIn, sizeB, capacity, next, held}
 use Rattle.log.specs.Writing.{newest}
-use Rattle.table.proofs.HeadLaws.{size-reads, sound-head}
+use Rattle.table.proofs.HeadLaws.{sound-head}
 use Rattle.log.proofs.HistoryLaws.{length-held}
-use Rattle.log.proofs.StartLaws.{starts}
 use Rattle.clock.proofs.RuleLaws.{clock-reads}
-use Rattle.service.specs.Promises.{World, started, Good}
-use Rattle.service.proofs.ReachLaws.{started-good}
+use Rattle.promises.proofs.GoodLaws.{new-table, new-good}
 use Rattle.carry.specs.Carry.{laterOf, movedBy, carriedOver, carriedFrom, carryOf, numberOf, noFaultB}
 use Rattle.carry.specs.declared.stamp.Carried.the-variants.{To, NotHeld, FaultAmong}
-use Rattle.promises.specs.World.{Call, runOf}
+use Rattle.promises.specs.World.{World, newWorld, Call, runOf}
+use Rattle.promises.specs.Reach.{Good}
 use Rattle.stamps.specs.Stamps.{ranOf, loggedOf, allHeldB, HoldsLogged, Carries, CarriedStamp}
 use Rattle.stamps.proofs.Differences.{diff-add, diff-is, diff-fits}
 use Rattle.promises.proofs.ReachLaws.{reachable}
@@ -145,31 +144,29 @@ carries v after g few =
     }
 
 pub carried-stamp : CarriedStamp carryOf
-carried-stamp t before after h few = carries (runOf (started t) before) after (reachable t before h) (omega (arith, few))
+carried-stamp t before after h few = carries (runOf (newWorld t) before) after (reachable t before h) (omega (arith, few))
 
 -- What the table then holds of what was logged.
 logged-held : (t : List ℕ) (calls : List Call) → sizeB (length t) ≡ true
-    → held (runOf (started t) calls .table) ≡ newest (slotsIn (length t)) (loggedOf (started t) calls)
+    → held (runOf (newWorld t) calls .table) ≡ newest (slotsIn (length t)) (loggedOf (newWorld t) calls)
 logged-held t calls h =
-    let d = went-run calls (started t) (started-good t h) in
-    let s = size-reads (length t) h in
-    let b = starts (slotsIn (length t)) (s .some) (s .few) in
-    d .kept [] (b .held ∙ sym (drop-nil (0 - capacity (started t .table))))
-    ∙ ap (λ (n : ℕ). newest n (loggedOf (started t) calls)) (d .capacity ∙ b .capacity)
+    let d = went-run calls (newWorld t) (new-good t h) in
+    let b = new-table t h in
+    d .kept [] (b .held ∙ sym (drop-nil (0 - capacity (newWorld t .table))))
+    ∙ ap (λ (n : ℕ). newest n (loggedOf (newWorld t) calls)) (d .capacity ∙ b .capacity)
 
 logged-number : (t : List ℕ) (calls : List Call) → sizeB (length t) ≡ true
-    → next (runOf (started t) calls .table) ≡ length (loggedOf (started t) calls) % 65536
+    → next (runOf (newWorld t) calls .table) ≡ length (loggedOf (newWorld t) calls) % 65536
 logged-number t calls h =
-    let s = size-reads (length t) h in
-    let z = starts (slotsIn (length t)) (s .some) (s .few) .next in
-    let e : next (started t .table) + length (loggedOf (started t) calls) ≡ length (loggedOf (started t) calls) = omega arith in
-    went-run calls (started t) (started-good t h) .number ∙ ap (λ (n : ℕ). n % 65536) e
+    let z = new-table t h .next in
+    let e : next (newWorld t .table) + length (loggedOf (newWorld t) calls) ≡ length (loggedOf (newWorld t) calls) = omega arith in
+    went-run calls (newWorld t) (new-good t h) .number ∙ ap (λ (n : ℕ). n % 65536) e
 
-logged-later : (t : List ℕ) (before after : List Call) → sizeB (length t) ≡ true → allHeldB (runOf (started t) before) after ≡ true
-    → newest (length (loggedOf (runOf (started t) before) after)) (held (runOf (runOf (started t) before) after .table))
-    ≡ loggedOf (runOf (started t) before) after
+logged-later : (t : List ℕ) (before after : List Call) → sizeB (length t) ≡ true → allHeldB (runOf (newWorld t) before) after ≡ true
+    → newest (length (loggedOf (runOf (newWorld t) before) after)) (held (runOf (runOf (newWorld t) before) after .table))
+    ≡ loggedOf (runOf (newWorld t) before) after
 logged-later t before after h k =
-    let v = runOf (started t) before in
+    let v = runOf (newWorld t) before in
     let g = reachable t before h in
     are-logged v (runOf v after) (loggedOf v after) (ranOf v after) g (went-run after v g) (leb-true _ _ k)
 

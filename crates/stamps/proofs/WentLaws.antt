@@ -28,11 +28,12 @@ use Rattle.update.proofs.AcceptLaws.{record-fits}
 use Rattle.judging.proofs.ProposalLaws.{proposal-sized}
 use Rattle.service.specs.Fault.{faultRecord, faultedOf, faultOf}
 use Rattle.refusals.specs.Outcome.{doneB}
-use Rattle.service.specs.Promises.{World, world, successB, Good}
+use Rattle.service.specs.Promises.{successB}
 use Rattle.service.specs.Update.{updateOf}
 use Rattle.service.proofs.PromiseLaws.{logged, refused-unchanged}
-use Rattle.service.proofs.ReachLaws.{fault-loggable}
-use Rattle.promises.specs.World.{Call, seconds, switches, disconnect, fault, timeUpdate, recordAccess, notify, left, stepBy, stepOf, runOf}
+use Rattle.promises.proofs.GoodLaws.{fault-loggable}
+use Rattle.promises.specs.World.{World, world, Call, seconds, switches, disconnect, fault, timeUpdate, recordAccess, notify, left, stepBy, stepOf, runOf}
+use Rattle.promises.specs.Reach.{Good}
 use Rattle.carry.specs.Carry.{noFaultB}
 use Rattle.stamps.specs.Stamps.{ranIn, ranOf, loggedIn, loggedOf}
 use Rattle.promises.proofs.ReachLaws.{Turned, same, turns, access-turned, notify-turned, call-good}

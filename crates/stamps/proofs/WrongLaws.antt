@@ -11,23 +11,21 @@ use lib.IntN.{ℤ, pos, negsuc}
 use lib.ListN.{length, replicate, drop-of-length-le}
 use Rattle.octets.proofs.Tests.{clash, both-yes}
 use Rattle.record.specs.declared.kinds.Record.{Record}
-use Rattle.table.specs.Table.{slotsIn, sizeB, next, held}
+use Rattle.table.specs.Table.{sizeB, next, held}
 use Rattle.log.specs.Writing.{newest}
-use Rattle.table.proofs.HeadLaws.{size-reads}
-use Rattle.log.proofs.StartLaws.{starts}
 use Rattle.clock.specs.Answers as clocks
 use Rattle.clock.proofs.RuleLaws.{clock-reads}
 use Rattle.service.specs.Fault.{faultRecord}
 use Rattle.refusals.specs.Outcome.{doneB, answered}
-use Rattle.service.specs.Promises.{World, started, Good}
 use Rattle.refusals.specs.Rows.{wholeB}
 use Rattle.service.proofs.FaultLaws.{fault-done}
-use Rattle.service.proofs.ReachLaws.{started-good}
+use Rattle.promises.proofs.GoodLaws.{new-table, new-good}
 use Rattle.refusals.proofs.RowLaws.{table-0}
 use Rattle.carry.specs.Carry.{laterOf, carriedOver, carriedFrom, carryOf, numberOf, noFaultB}
 use Rattle.carry.specs.declared.stamp.Carried.{Carried}
 use Rattle.carry.specs.declared.stamp.Carried.the-variants.{To, TableNotSound, NotHeld, FaultAmong, PastRange}
-use Rattle.promises.specs.World.{Call, seconds, fault, stepOf, runOf}
+use Rattle.promises.specs.World.{World, newWorld, Call, seconds, fault, stepOf, runOf}
+use Rattle.promises.specs.Reach.{Good}
 use Rattle.stamps.specs.Stamps.{loggedIn, loggedOf, Carrying, carriedAfter, allHeldB, Carries, CarriedBelow, CarriedStamp}
 use Rattle.stamps.specs.Cases.{resultOf, buffer, output, set, on}
 use Rattle.stamps.specs.Wrong as wrong
@@ -44,7 +42,7 @@ by-parts stamp q t = refl
 
 -- the paper's case 6
 abbrev reached : World
-reached = runOf (started (buffer 144)) (on ∷ set writable 800000000 ∷ seconds 50 ∷ [])
+reached = runOf (newWorld (buffer 144)) (on ∷ set writable 800000000 ∷ seconds 50 ∷ [])
 
 abbrev since : List Call
 since = seconds 50 ∷ set writable 800000070 ∷ seconds 40 ∷ []
@@ -159,20 +157,17 @@ refuses-fault carry v after x h = go (allHeldB v after) refl
     go true e = simp (e, h) at (x .exactly)
     go false e = simp (e, h) at (x .exactly)
 
-started-next : (t : List ℕ) → sizeB (length t) ≡ true → next (started t .table) ≡ 0
-started-next t h = let s = size-reads (length t) h in starts (slotsIn (length t)) (s .some) (s .few) .next
-
 -- 65,535 faults, and one more: the next number is 0
 round : (x y z n : ℕ) → x ≡ 0 → y ≡ (x + n) % 65536 → z ≡ (y + 1) % 65536 → n ≡ 65535 → z - y ≡ 0
 round x y z n a b d e = omega arith
 
 saturated-at : (n : ℕ) (t : List ℕ) → sizeB (length t) ≡ true → n ≡ 65535 → CarriedStamp wrong.saturated → ⊥
 saturated-at n t h e k =
-    let v = runOf (started t) (faults n) in
+    let v = runOf (newWorld t) (faults n) in
     let g : Good v = reachable t (faults n) h in
     let few : length (loggedOf v (faults 1)) < 65536 = omega (arith, logs-all 1 v g) in
-    let z = round (next (started t .table)) (next (v .table)) (next (runOf v (faults 1) .table)) n (started-next t h)
-    (next-after n (started t) (started-good t h)) (next-after 1 v g) e in
+    let z = round (next (newWorld t .table)) (next (v .table)) (next (runOf v (faults 1) .table)) n (new-table t h .next)
+    (next-after n (newWorld t) (new-good t h)) (next-after 1 v g) e in
     clash (eqb (numberOf (carriedAfter wrong.saturated v (faults 1))) 0)
     (carries-none _-_ v (runOf v (faults 1)) g (calls-good (faults 1) v g) z)
     (refuses-fault wrong.saturated v (faults 1) (k t (faults n) (faults 1) h few) (fault-among 0 v g))
@@ -188,10 +183,10 @@ whole-round x y n a b e = omega arith
 loose : (n bound : ℕ) (t : List ℕ) → sizeB (length t) ≡ true → suc n ≡ 65536 → 65536 < bound → CarriedBelow bound carryOf → ⊥
 unfolding runOf laterOf
 loose n bound t h e b k =
-    let v = started t in
-    let g : Good v = started-good t h in
+    let v = newWorld t in
+    let g : Good v = new-good t h in
     let few : length (loggedOf v (faults (suc n))) < bound = omega (arith, logs-all (suc n) v g) in
-    let z = whole-round (next (v .table)) (next (runOf v (faults (suc n)) .table)) (suc n) (started-next t h) (next-after (suc n) v g) e in
+    let z = whole-round (next (v .table)) (next (runOf v (faults (suc n)) .table)) (suc n) (new-table t h .next) (next-after (suc n) v g) e in
     clash (eqb (numberOf (carriedAfter carryOf v (faults (suc n)))) 0)
     (ap (λ (x : Carried). eqb (numberOf x) 0) (sym (by-parts _ _ _))
     ∙ carries-none laterOf v (runOf v (faults (suc n))) g (calls-good (faults (suc n)) v g) z)

@@ -6,45 +6,13 @@ use Prim.Native.Nat.{ℕ}
 use lib.IntN.{pos, negsuc}
 use lib.ListN.{length, replicate}
 use Rattle.octets.specs.Numbers.{bytes4}
-use Rattle.octets.specs.Parts.{Bytes, zerosB, over}
-use Rattle.rules.specs.Rules.{baseB, zoneB, dstB, sourceB, statusB, bitsB}
-use Rattle.filter.specs.Filter.{matchesB}
-use Rattle.record.specs.Fields.{sequenceOf}
-use Rattle.layout.specs.Layout.{updateBytes, faultBytes, bytesOf, updateAt, faultAt, recordOf, sizedB, shapeB}
-use Rattle.coding.specs.WellFormed.{updateB, faultB, recordB, wellFormedB}
-use Rattle.table.specs.Table.{sizeB, startB, emptyB, fieldsB, headB, next, slot, bytesIn, recordIn, slots, ring, held, slotB, rowB, soundB, steps}
-use Rattle.log.specs.Writing.{fresh, placeOf, slotOf, headerAfter, appendOf}
-use Rattle.held.specs.Matching.{firstFrom, nextMatch, matchingFrom, matching}
-use Rattle.clock.specs.Answers.{numberOf}
-use Rattle.clock.specs.State.{newReader}
-use Rattle.clock.specs.Rules.{opcodeB, filterB, counterB, reportB, clockB, timeB}
-use Rattle.clock.specs.Rules as clocks
-use Rattle.clock.specs.Events.{unlessBroken, withBase, secondsOf, switchesOf}
-use Rattle.update.specs.Accept.{statusAfter, alignedAfter, accuracyOf, acceptedOf, loggedB, updateRecord}
-use Rattle.update.specs.Decide.{judged, operandOf, decideOf}
-use Rattle.update.specs.Decide as decide
-use Rattle.judging.specs.Grades.{clockGrade, localB, gradeOf}
-use Rattle.judging.specs.Grounds.{epochB, rangeB, lowerB, secondsApart, unrealisticB, flagIf, groundsOf}
-use Rattle.judging.specs.Proposal.{proposalAt}
-use Rattle.update.specs.Response.{responseBytes}
-use Rattle.service.specs.Fault.{countAfter, faultRecord, faultedOf, endingOf, faultOf}
-use Rattle.refusals.specs.Outcome.{doneB, answered}
-use Rattle.service.specs.Promises.{started}
-use Rattle.refusals.specs.Rows.{firstFailed, leftB, wholeB, tableRows, writeRows}
-use Rattle.refusals.specs.Rows as rows
-use Rattle.service.specs.Update.{updateRows, tableAfter, settledOf, effectOf, updateOf}
-use Rattle.access.specs.Codes.{codeOf}
-use Rattle.access.specs.Request.{operandBytes, typedB, filterAt, askedOf, abortOf, requestOf}
-use Rattle.access.specs.Request as request
-use Rattle.access.specs.Response.{codeBytes, countBytes}
-use Rattle.asking.specs.Report.{numberIn, leftAt, leftFrom}
-use Rattle.asking.specs.Report as reports
-use Rattle.asking.specs.Access.{accessRows, accessed, begunOf, abortedOf, accessedOf, accessOf}
-use Rattle.transfer.specs.Notify.{roomB, notifyRows, headerOf, segmentOf, leftAfter, closingOf, saidOf, noticed, runningNotice, notifyOf}
+use Rattle.octets.specs.Parts.{Bytes}
+use Rattle.table.specs.Table.{next}
 use Rattle.carry.specs.Carry.{laterOf, carriedOver, carriedFrom, carryOf, noFaultB, movedBy}
 use Rattle.carry.specs.declared.stamp.Carried.{Carried}
 use Rattle.carry.specs.declared.stamp.Carried.the-variants.{To, NotHeld, FaultAmong}
-use Rattle.promises.specs.World.{Call, seconds, switches, fault, timeUpdate, recordAccess, notify, stepBy, runOf}
+use Rattle.promises.specs.World.{newWorld, Call, seconds, switches, fault, timeUpdate, recordAccess, notify, runOf}
+use Rattle.promises.specs.Open.{callsOpen}
 use Rattle.stamps.specs.Stamps.{ranIn, ranOf, loggedIn, loggedOf, carriedAfter, allHeldB}
 
 -- the stamp and its number, how many records came after it, the theorem's two tests, what carrying gives; the clock then, and the seconds
@@ -67,9 +35,9 @@ abbrev pub output : List ℕ
 output = replicate 244 0
 
 unfoldable pub resultOf : List ℕ → List Call → List Call → Result
-unfolding newReader fresh accessRows accessed begunOf abortedOf accessedOf accessOf operandBytes typedB filterAt request.operandOf askedOf abortOf requestOf codeOf codeBytes countBytes firstFailed leftB wholeB tableRows writeRows rows.runningB clocks.runningB doneB answered numberOf opcodeB filterB counterB reportB clockB timeB baseB zoneB dstB sourceB statusB bitsB soundB headB sizeB startB emptyB fieldsB zerosB slot bytesIn recordIn slots ring held slotB rowB wellFormedB shapeB sizedB recordB updateB faultB recordOf updateAt faultAt sequenceOf matchesB firstFrom nextMatch matchingFrom matching numberIn reports.bytesIn leftAt leftFrom bytesOf updateBytes faultBytes over roomB notifyRows headerOf segmentOf leftAfter closingOf saidOf noticed runningNotice notifyOf unlessBroken withBase secondsOf switchesOf faultOf faultedOf countAfter faultRecord endingOf appendOf steps placeOf slotOf headerAfter updateRows tableAfter settledOf effectOf updateOf statusAfter alignedAfter accuracyOf acceptedOf loggedB updateRecord judged decide.operandOf decideOf clockGrade localB gradeOf epochB rangeB lowerB secondsApart unrealisticB flagIf groundsOf proposalAt responseBytes laterOf movedBy carriedOver carriedFrom carryOf stepBy runOf ranIn ranOf loggedIn loggedOf noFaultB
+unfolding callsOpen laterOf movedBy carriedOver carriedFrom carryOf runOf ranIn ranOf loggedIn loggedOf noFaultB
 resultOf t before after =
-    let v = runOf (started t) before in
+    let v = runOf (newWorld t) before in
     record {
       stamp = v .clock .time .base;
       number = next (v .table);

@@ -9,7 +9,6 @@ use lib.IntN.{ℤ, pos, _-ℤ_}
 use lib.ListN.{length}
 use Rattle.octets.specs.Choice.{both, pick}
 use Rattle.record.specs.declared.kinds.Record.{Record}
-use Rattle.record.specs.declared.kinds.Record.the-variants.{TimeUpdate, TimeFault}
 use Rattle.table.specs.Table.{slotsIn, sizeB, next, held}
 use Rattle.log.specs.Writing.{newest}
 use Rattle.clock.specs.Events.{secondsOf}
@@ -17,12 +16,12 @@ use Rattle.judging.specs.Proposal.{proposalAt}
 use Rattle.update.specs.Accept.{updateRecord}
 use Rattle.service.specs.Fault.{faultRecord, faultOf}
 use Rattle.refusals.specs.Outcome.{doneB}
-use Rattle.service.specs.Promises.{World, successB, started}
+use Rattle.service.specs.Promises.{successB}
 use Rattle.service.specs.Update.{updateOf}
 use Rattle.carry.specs.Carry.{numberOf, noFaultB}
 use Rattle.carry.specs.declared.stamp.Carried.{Carried}
 use Rattle.carry.specs.declared.stamp.Carried.the-variants.{To, NotHeld, FaultAmong}
-use Rattle.promises.specs.World.{Call, seconds, switches, disconnect, fault, timeUpdate, recordAccess, notify, stepOf, runOf}
+use Rattle.promises.specs.World.{World, newWorld, Call, seconds, switches, disconnect, fault, timeUpdate, recordAccess, notify, stepOf, runOf}
 
 -- "The seconds that ran are those of events answered 0."
 unfoldable pub ranIn : World → Call → ℕ
@@ -72,12 +71,12 @@ allHeldB v after = leb (length (loggedOf v after)) (length (held (runOf v after 
 -- `allHeldB` is the test that all of the last calls' records are among them.
 pub record HoldsLogged : Type 0 where
   pub holds : (t : List ℕ) (calls : List Call) → sizeB (length t) ≡ true
-      → held (runOf (started t) calls .table) ≡ newest (slotsIn (length t)) (loggedOf (started t) calls)
+      → held (runOf (newWorld t) calls .table) ≡ newest (slotsIn (length t)) (loggedOf (newWorld t) calls)
   pub counts : (t : List ℕ) (calls : List Call) → sizeB (length t) ≡ true
-      → next (runOf (started t) calls .table) ≡ length (loggedOf (started t) calls) % 65536
-  pub later : (t : List ℕ) (before after : List Call) → sizeB (length t) ≡ true → allHeldB (runOf (started t) before) after ≡ true
-      → newest (length (loggedOf (runOf (started t) before) after)) (held (runOf (runOf (started t) before) after .table))
-      ≡ loggedOf (runOf (started t) before) after
+      → next (runOf (newWorld t) calls .table) ≡ length (loggedOf (newWorld t) calls) % 65536
+  pub later : (t : List ℕ) (before after : List Call) → sizeB (length t) ≡ true → allHeldB (runOf (newWorld t) before) after ≡ true
+      → newest (length (loggedOf (runOf (newWorld t) before) after)) (held (runOf (runOf (newWorld t) before) after .table))
+      ≡ loggedOf (runOf (newWorld t) before) after
 
 pub record Carries (carry : Carrying) (v : World) (after : List Call) : Type 0 where
   -- "Carrying the stamp answers exactly when all later records are held and no time fault is among them"
@@ -91,7 +90,7 @@ pub record Carries (carry : Carrying) (v : World) (after : List Call) : Type 0 w
 -- of fewer than n later records
 abbrev pub CarriedBelow : ℕ → Carrying → Type 0
 CarriedBelow n carry = (t : List ℕ) (before after : List Call) → sizeB (length t) ≡ true
-    → length (loggedOf (runOf (started t) before) after) < n → Carries carry (runOf (started t) before) after
+    → length (loggedOf (runOf (newWorld t) before) after) < n → Carries carry (runOf (newWorld t) before) after
 
 -- Theorem Carried stamp: "From a new reader .. let fewer than 65,536 records be logged".
 abbrev pub CarriedStamp : Carrying → Type 0

@@ -11,11 +11,10 @@ use Rattle.record.specs.declared.kinds.Record.{Record}
 use Rattle.record.specs.declared.kinds.Record.the-variants.{TimeUpdate, TimeFault}
 use Rattle.table.specs.Table.{sizeB, next, held, soundB}
 use Rattle.log.specs.Writing.{newest}
-use Rattle.service.specs.Promises.{started}
 use Rattle.carry.specs.Carry.{laterOf, carriedOver, carryOf, numberOf}
 use Rattle.carry.specs.declared.stamp.Carried.{Carried}
 use Rattle.carry.specs.declared.stamp.Carried.the-variants.{To, TableNotSound, NotHeld, FaultAmong}
-use Rattle.promises.specs.World.{Call, runOf}
+use Rattle.promises.specs.World.{newWorld, Call, runOf}
 use Rattle.stamps.specs.Stamps.{loggedOf, Carrying, carriedAfter, CarriedBelow, CarriedStamp}
 
 -- carrying, with each part that can be wrong: how many records came later, which of the held are summed, how
@@ -92,5 +91,5 @@ pub record ShutOut : Type 0 where
 -- Two ways that keep the theorem give one outcome in every reached world.
 abbrev pub OneCarrying : Type 0
 OneCarrying = (a b : Carrying) → CarriedStamp a → CarriedStamp b → (t : List ℕ) (before after : List Call) → sizeB (length t) ≡ true
-    → length (loggedOf (runOf (started t) before) after) < 65536
-    → carriedAfter a (runOf (started t) before) after ≡ carriedAfter b (runOf (started t) before) after
+    → length (loggedOf (runOf (newWorld t) before) after) < 65536
+    → carriedAfter a (runOf (newWorld t) before) after ≡ carriedAfter b (runOf (newWorld t) before) after
