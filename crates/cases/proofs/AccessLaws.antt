@@ -23,9 +23,8 @@ use Rattle.held.specs.declared.matching.Found.the-variants as found
 use Rattle.clock.specs.declared.state.Clock.{Clock}
 use Rattle.refusals.specs.Outcome.{doneB, answered}
 use Rattle.refusals.specs.Rows.{firstFailed}
-use Rattle.access.specs.Codes.{codeOf}
+use Rattle.codes.specs.Response.{codeOf, codeBytes, countBytes}
 use Rattle.access.specs.Request.{opcodeIn, requestOf}
-use Rattle.access.specs.Response.{codeBytes, countBytes}
 use Rattle.access.specs.declared.request.Request.{Request}
 use Rattle.access.specs.declared.request.Request.the-variants.{Report, Number, Abort, Refused}
 use Rattle.asking.specs.Access.{accessRows, accessed, begunOf, accessedOf, responseIn, accessOf}

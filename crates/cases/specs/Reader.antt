@@ -20,7 +20,8 @@ use Rattle.clock.specs.Rules as clocks
 use Rattle.clock.specs.State.{newReader}
 use Rattle.clock.specs.declared.events.Event.{Event}
 use Rattle.update.specs.Accept.{statusAfter, alignedAfter, accuracyOf, acceptedOf, loggedB, updateRecord}
-use Rattle.update.specs.Decide.{proposeOpcode, forceOpcode, judged, operandOf, decideOf}
+use Rattle.codes.specs.Dtcp.{proposeOpcode, forceOpcode}
+use Rattle.update.specs.Decide.{judged, operandOf, decideOf}
 use Rattle.judging.specs.Grades.{clockGrade, localB, gradeOf}
 use Rattle.judging.specs.Grounds.{epochB, rangeB, lowerB, secondsApart, unrealisticB, flagIf, groundsOf}
 use Rattle.judging.specs.Proposal.{proposalAt}
@@ -31,10 +32,9 @@ use Rattle.refusals.specs.Rows.{firstFailed, leftB, wholeB, tableRows, writeRow
 use Rattle.refusals.specs.Rows as rows
 use Rattle.service.specs.Start.{newReaderOf}
 use Rattle.service.specs.Update.{updateRows, tableAfter, settledOf, effectOf, updateOf}
-use Rattle.access.specs.Codes.{codeOf}
+use Rattle.codes.specs.Response.{codeOf, codeBytes, countBytes}
 use Rattle.access.specs.Request.{operandBytes, typedB, filterAt, askedOf, abortOf, requestOf}
 use Rattle.access.specs.Request as requests
-use Rattle.access.specs.Response.{codeBytes, countBytes}
 use Rattle.asking.specs.Report.{numberIn, leftAt, leftFrom}
 use Rattle.asking.specs.Report as reports
 use Rattle.asking.specs.Access.{accessRows, accessed, begunOf, abortedOf, accessedOf, accessOf}

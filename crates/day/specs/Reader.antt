@@ -10,7 +10,7 @@ use Rattle.octets.specs.Numbers.{bytes4}
 use Rattle.table.specs.Table.{next, soundB}
 use Rattle.clock.specs.Events.{secondsOf, switchesOf, disconnectOf}
 use Rattle.clock.specs.declared.state.Clock.{Clock}
-use Rattle.update.specs.Decide.{proposeOpcode}
+use Rattle.codes.specs.Dtcp.{proposeOpcode}
 use Rattle.refusals.specs.Outcome.{Outcome}
 use Rattle.service.specs.Start.{newReaderOf}
 use Rattle.service.specs.Fault.{faultOf}

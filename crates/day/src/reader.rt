@@ -4,12 +4,12 @@ use clock::events::disconnect;
 use clock::events::seconds;
 use clock::events::switches;
 use clock::state::Clock;
+use codes::dtcp::PROPOSE_OPCODE;
 use held::look::next_number;
 use service::fault::fault;
 use service::start::start;
 use service::time_update::time_update;
 use soundness::sound::sound;
-use update::decide::PROPOSE_OPCODE;
 ghost use mathlib.Core.Path.{_≡_};
 ghost use Rattle.day.specs.Reader.{proposalBytes, startedOf, withClock, setOf, failedOf, readOf, livedOf};
 

@@ -23,9 +23,8 @@ use Rattle.clock.proofs.EventLaws.{with-running-obeys}
 use Rattle.refusals.specs.Outcome.{doneB, answered}
 use Rattle.service.specs.Promises.{World, world}
 use Rattle.refusals.proofs.RowLaws.{whole-reads}
-use Rattle.access.specs.Codes.{codeOf}
+use Rattle.codes.specs.Response.{codeOf, codeBytes}
 use Rattle.access.specs.Request.{opcodeIn, requestOf}
-use Rattle.access.specs.Response.{codeBytes}
 use Rattle.access.specs.declared.request.Request.the-variants.{Report}
 use Rattle.asking.specs.Report.{report, leftFrom}
 use Rattle.asking.specs.Access.{accessed, begunOf, accessedOf, responseIn, accessOf}

@@ -29,9 +29,8 @@ use Rattle.service.specs.Promises.{world}
 use Rattle.refusals.specs.Rows.{firstFailed, leftB, wholeB, tableRows, writeRows}
 use Rattle.refusals.specs.Rows as rows
 use Rattle.service.specs.Update.{updateRows, updateOf}
-use Rattle.access.specs.Codes.{codeOf}
+use Rattle.codes.specs.Response.{codeOf, codeBytes, countBytes}
 use Rattle.access.specs.Request.{operandBytes, typedB, filterAt, operandOf, askedOf, abortOf, requestOf}
-use Rattle.access.specs.Response.{codeBytes, countBytes}
 use Rattle.access.specs.declared.request.Request.{Request}
 use Rattle.access.specs.declared.request.Request.the-variants.{Report}
 use Rattle.asking.specs.Report.{numberIn, leftAt, leftFrom}

@@ -21,9 +21,9 @@ use Rattle.clock.specs.declared.state.Running.{Running}
 use Rattle.clock.specs.declared.state.Running.the-variants.{Idle, Reporting}
 use Rattle.refusals.specs.Outcome.{doneB}
 use Rattle.refusals.specs.Rows.{Row, row, firstFailed, idleB, tableRows}
-use Rattle.access.specs.Request.{reportOpcode, combinedOpcode}
-use Rattle.access.specs.Response.{combinedResponse, codeBytes, countBytes}
-use Rattle.access.specs.declared.codes.Code.the-variants.{Success}
+use Rattle.codes.specs.Racp.{reportOpcode, combinedOpcode, combinedResponse}
+use Rattle.codes.specs.Response.{codeBytes, countBytes}
+use Rattle.codes.specs.declared.response.Code.the-variants.{Success}
 use Rattle.asking.specs.Report.{report, bytesIn, leftFrom}
 use Rattle.transfer.specs.declared.notify.Notified.{Notified}
 

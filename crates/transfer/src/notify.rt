@@ -1,11 +1,5 @@
 // A notification of the running report (document 01, "RACP and notifications"): rows 1, 2, 3 and 8, then a segment of
 // its next record, or the closing response.
-use access::codes::Code;
-use access::request::COMBINED_OPCODE;
-use access::request::REPORT_OPCODE;
-use access::response::COMBINED_RESPONSE;
-use access::response::code_bytes;
-use access::response::count_bytes;
 use asking::report::left_from;
 use clock::answers::Answer;
 use clock::state::Clock;
@@ -13,6 +7,12 @@ use clock::state::Left;
 use clock::state::Report;
 use clock::state::Running;
 use clock::state::with_running;
+use codes::racp::COMBINED_OPCODE;
+use codes::racp::COMBINED_RESPONSE;
+use codes::racp::REPORT_OPCODE;
+use codes::response::Code;
+use codes::response::code_bytes;
+use codes::response::count_bytes;
 use filter::request::Filter;
 use held::look::age_of;
 use held::look::record_at;
