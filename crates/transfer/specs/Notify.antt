@@ -27,9 +27,16 @@ use Rattle.codes.specs.declared.response.Code.the-variants.{Success}
 use Rattle.asking.specs.Report.{report, bytesIn, leftFrom}
 use Rattle.transfer.specs.declared.notify.Notified.{Notified}
 
+-- "payload size P outside 20 to 244"
+abbrev pub leastPayload : ℕ
+leastPayload = 20
+
+abbrev pub greatestPayload : ℕ
+greatestPayload = 244
+
 -- row 3: "for a notification, payload size P outside 20 to 244 or output shorter than P"
 unfoldable pub roomB : ℕ → ℕ → Bool
-roomB p o = both (both (leb 20 p) (leb p 244)) (leb p o)
+roomB p o = both (both (leb leastPayload p) (leb p greatestPayload)) (leb p o)
 
 -- rows 1, 2, 3 and 8: "notification asked for, no report running"
 unfoldable pub notifyRows : Clock → List ℕ → ℕ → List ℕ → List Row

@@ -50,11 +50,19 @@ pub struct Notified {
     pub len: usize,
 }
 
-// Row 3: a payload size of 20 to 244, and room for it.
+// "Payload size P outside 20 to 244."
+pub const LEAST_PAYLOAD: u32 = 20;
+
+pub const GREATEST_PAYLOAD: u32 = 244;
+
+// Row 3: a payload size within these, and room for it.
 fn room(p: u32, out: usize) -> bool
     ensures { λ r. ⌜ r ≡ roomB p out ⌝ }
 {
-    both(both(20 <= p, p <= 244), p as usize <= out)
+    both(
+        both(LEAST_PAYLOAD <= p, p <= GREATEST_PAYLOAD),
+        p as usize <= out,
+    )
 }
 
 fn bit(b: bool) -> u8
