@@ -6,9 +6,8 @@ use mathlib.Core.List.{List, [], _∷_, map}
 use Prim.Native.Nat.{ℕ}
 use Rattle.filter.specs.declared.request.Filter.the-variants.{All, AtMost, AtLeast, Range, First, Last}
 use Rattle.clock.specs.Rules.{filterB}
-use Rattle.access.specs.Codes.{codeOf}
+use Rattle.codes.specs.Response.{codeOf, codeBytes}
 use Rattle.access.specs.Request.{opcodeIn, operandBytes, typedB, filterAt, operandOf, askedOf, abortOf, requestOf}
-use Rattle.access.specs.Response.{codeBytes}
 use Rattle.access.specs.declared.request.Request.{Request}
 use Rattle.access.specs.declared.request.Request.the-variants.{Report, Number, Abort, Refused}
 

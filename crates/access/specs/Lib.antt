@@ -1,4 +1,2 @@
-pub mod Codes
 pub mod Request
-pub mod Response
 pub mod Cases

@@ -19,7 +19,8 @@ use Rattle.service.specs.Update.{updateOf}
 use Rattle.values.specs.Value.{deviceTimeOf}
 use Rattle.asking.specs.Access.{accessOf}
 use Rattle.transfer.specs.Notify.{notifyOf}
-use Rattle.tablet.specs.Joining.{joinOf, mostBytes}
+use Rattle.record.specs.Fields.{mostBytes}
+use Rattle.tablet.specs.Joining.{joinOf}
 use Rattle.tablet.specs.declared.joining.Joining.{Joining}
 use Rattle.image.specs.State.{stateBytes, imageOf, clockIn, imageB}
 use Rattle.image.specs.Joining.{joiningImage}

@@ -6,7 +6,7 @@ use lib.ListN.{take, replicate}
 use Rattle.octets.specs.Numbers.{bytes4}
 use Rattle.clock.specs.Events.{secondsOf, switchesOf}
 use Rattle.clock.specs.declared.events.Event.{Event}
-use Rattle.update.specs.Decide.{proposeOpcode, forceOpcode}
+use Rattle.codes.specs.Dtcp.{proposeOpcode, forceOpcode}
 use Rattle.refusals.specs.Outcome.{Outcome}
 use Rattle.service.specs.Update.{updateOf}
 use Rattle.asking.specs.Access.{accessOf}

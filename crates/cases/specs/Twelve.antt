@@ -15,7 +15,7 @@ use Rattle.clock.specs.Events.{onOff}
 use Rattle.clock.specs.Answers.{numberOf}
 use Rattle.clock.specs.declared.state.Clock.{Clock}
 use Rattle.clock.specs.declared.state.Running.the-variants.{Idle}
-use Rattle.update.specs.Decide.{proposeOpcode, forceOpcode}
+use Rattle.codes.specs.Dtcp.{proposeOpcode, forceOpcode}
 use Rattle.judging.specs.Grounds.{unrealistic, outOfRange}
 use Rattle.refusals.specs.Outcome.{Outcome}
 use Rattle.carry.specs.Carry.{laterOf, movedBy, carriedOver, carriedFrom, carryOf}

@@ -24,7 +24,8 @@ use Rattle.clock.specs.declared.state.Report.{Report}
 use Rattle.clock.specs.declared.state.Running.{Running}
 use Rattle.clock.specs.declared.state.Running.the-variants.{Idle, Reporting}
 use Rattle.update.specs.Accept.{acceptedOf, updateRecord}
-use Rattle.update.specs.Decide.{proposeOpcode, forceOpcode, judged, decideOf}
+use Rattle.codes.specs.Dtcp.{proposeOpcode, forceOpcode}
+use Rattle.update.specs.Decide.{judged, decideOf}
 use Rattle.judging.specs.Grounds.{unrealistic, outOfRange, lowerQuality, wrongEpoch, realisticSeconds, epochB, rangeB, lowerB, unrealisticB, flagIf, groundsOf}
 use Rattle.judging.specs.Proposal.{updateWriteBytes, proposalAt}
 use Rattle.update.specs.Response.{responseBytes}
@@ -37,7 +38,8 @@ use Rattle.service.specs.Fault.{faultRecord, faultedOf, endingOf, faultOf}
 use Rattle.refusals.specs.Rows.{firstFailed, tableRows}
 use Rattle.service.specs.Update.{Settled, settled, updateRows, settledOf, updateOf}
 use Rattle.access.specs.Request.{opcodeIn, requestOf}
-use Rattle.access.specs.Response.{numberResponse, codeBytes, countBytes}
+use Rattle.codes.specs.Racp.{numberResponse}
+use Rattle.codes.specs.Response.{codeBytes, countBytes}
 use Rattle.access.specs.declared.request.Request.{Request}
 use Rattle.access.specs.declared.request.Request.the-variants as asked
 use Rattle.asking.specs.Access.{accessRows, accessed, begunOf, abortedOf, responseIn, accessOf}

@@ -6,6 +6,7 @@ use Prim.Native.Nat.{ℕ, _≤_}
 use lib.Dec.{leb, eqb}
 use Rattle.octets.specs.Choice.{both, either}
 use Rattle.rules.specs.Rules.{firstBaseTime, lastBaseTime, baseB, zoneB, dstB, sourceB, statusB}
+use Rattle.codes.specs.Racp.{reportOpcode, combinedOpcode}
 use Rattle.filter.specs.declared.request.Filter.{Filter}
 use Rattle.filter.specs.declared.request.Filter.the-variants.{All, AtMost, AtLeast, Range, First, Last}
 use Rattle.clock.specs.declared.state.Clock.{Clock}
@@ -16,7 +17,7 @@ use Rattle.clock.specs.declared.state.Time.{Time}
 
 -- "the running report, if any: opcode 1 or 7"
 unfoldable pub opcodeB : ℕ → Bool
-opcodeB o = either (eqb o 1) (eqb o 7)
+opcodeB o = either (eqb o reportOpcode) (eqb o combinedOpcode)
 
 -- "a filter that passes the checks below": only a range can fail, with its "minimum above maximum"
 unfoldable pub filterB : Filter → Bool

@@ -4,6 +4,8 @@ use crate::state::Clock;
 use crate::state::Report;
 use crate::state::Running;
 use crate::state::Time;
+use codes::racp::COMBINED_OPCODE;
+use codes::racp::REPORT_OPCODE;
 use filter::request::Filter;
 use octets::choice::both;
 use rules::fields::base_ok;
@@ -21,7 +23,7 @@ fn opcode_ok(opcode: u8) -> bool
     ensures { λ r. ⌜ r ≡ opcodeB opcode ⌝ }
 {
     match opcode {
-        1 | 7 => true,
+        REPORT_OPCODE | COMBINED_OPCODE => true,
         _ => false,
     }
 }

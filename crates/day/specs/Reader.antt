@@ -10,8 +10,9 @@ use Rattle.octets.specs.Numbers.{bytes4}
 use Rattle.table.specs.Table.{next, soundB}
 use Rattle.clock.specs.Events.{secondsOf, switchesOf, disconnectOf}
 use Rattle.clock.specs.declared.state.Clock.{Clock}
-use Rattle.update.specs.Decide.{proposeOpcode}
+use Rattle.codes.specs.Dtcp.{proposeOpcode}
 use Rattle.refusals.specs.Outcome.{Outcome}
+use Rattle.refusals.specs.Rows.{leastOutput}
 use Rattle.service.specs.Start.{newReaderOf}
 use Rattle.service.specs.Fault.{faultOf}
 use Rattle.service.specs.Update.{updateOf}
@@ -26,7 +27,7 @@ proposalBytes base = proposeOpcode ∷ 0x43 ∷ 0x00 ∷ (bytes4 base ++ (4 ∷ 
 
 -- the output lent with each write
 abbrev pub output : List ℕ
-output = replicate 20 0
+output = replicate leastOutput 0
 
 abbrev pub reader : Clock → List ℕ → List Note → Reader
 reader c t n = record { clock = c; table = t; notes = n }

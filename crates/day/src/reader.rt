@@ -4,12 +4,13 @@ use clock::events::disconnect;
 use clock::events::seconds;
 use clock::events::switches;
 use clock::state::Clock;
+use codes::dtcp::PROPOSE_OPCODE;
 use held::look::next_number;
+use refusals::rows::LEAST_OUTPUT;
 use service::fault::fault;
 use service::start::start;
 use service::time_update::time_update;
 use soundness::sound::sound;
-use update::decide::PROPOSE_OPCODE;
 ghost use mathlib.Core.Path.{_≡_};
 ghost use Rattle.day.specs.Reader.{proposalBytes, startedOf, withClock, setOf, failedOf, readOf, livedOf};
 
@@ -90,7 +91,7 @@ fn set(r: Reader, base: u32) -> Reader
     let mut table = r.table;
     let notes = r.notes;
     let write = proposal(base);
-    let mut out = [0u8; 20];
+    let mut out = [0u8; LEAST_OUTPUT];
     let reply = time_update(before, &mut table, &write, &mut out);
     let clock = reply.clock;
     Reader {
@@ -106,7 +107,7 @@ fn fail(r: Reader) -> Reader
     let before = r.clock;
     let mut table = r.table;
     let notes = r.notes;
-    let mut out = [0u8; 20];
+    let mut out = [0u8; LEAST_OUTPUT];
     let reply = fault(before, &mut table, &mut out);
     let clock = reply.clock;
     Reader {

@@ -5,6 +5,7 @@ use mathlib.Core.List.{List, [], _∷_}
 use Prim.Native.Nat.{ℕ, zero, suc}
 use lib.ListN.{replicate, take}
 use Rattle.octets.specs.Choice.{pick}
+use Rattle.codes.specs.Racp.{reportOpcode, allRecords}
 use Rattle.record.specs.declared.kinds.Record.{Record}
 use Rattle.record.specs.declared.kinds.Reading.{Reading}
 use Rattle.record.specs.declared.kinds.Reading.the-variants.{Is, Refused}
@@ -13,7 +14,7 @@ use Rattle.log.specs.Writing.{appendOf}
 use Rattle.clock.specs.declared.state.Clock.{Clock}
 use Rattle.service.specs.Start.{newReaderOf}
 use Rattle.asking.specs.Access.{accessOf}
-use Rattle.transfer.specs.Notify.{Notice, notifyOf}
+use Rattle.transfer.specs.Notify.{leastPayload, Notice, notifyOf}
 use Rattle.tablet.specs.Joining.{emptyJoining, joinOf}
 use Rattle.tablet.specs.Reading.{readJoinedOf}
 use Rattle.tablet.specs.declared.joining.Answer.{Answer}
@@ -50,7 +51,7 @@ fetch c j t b = record { clock = c; joining = j; copy = t; closed = b }
 
 -- "1 Report Stored Records", of all; "Joining is restarted for each new report"
 unfoldable pub askedOf : Clock → List ℕ → Fetch
-askedOf c t = fetch (accessOf c t (1 ∷ 1 ∷ []) output .reply .clock) emptyJoining (newReaderOf (replicate 528 0) .table) false
+askedOf c t = fetch (accessOf c t (reportOpcode ∷ allRecords ∷ []) output .reply .clock) emptyJoining (newReaderOf (replicate 528 0) .table) false
 
 -- a segment is joined; the closing response ends the fetching
 abbrev pub tookOf : Fetch → Notice → Fetch
@@ -61,7 +62,7 @@ tookOf f n =
     (fetch (n .reply .clock) (x .joining) (keptIn (f .copy) x) false)
 
 unfoldable pub heardOf : List ℕ → Fetch → Fetch
-heardOf t f = pick (f .closed) f (tookOf f (notifyOf (f .clock) t 20 output))
+heardOf t f = pick (f .closed) f (tookOf f (notifyOf (f .clock) t leastPayload output))
 
 -- so many notifications asked for
 unfoldable pub heardAll : ℕ → List ℕ → Fetch → Fetch

@@ -3,11 +3,14 @@
 use asking::record_access::record_access;
 use carry::stamp::carry;
 use clock::state::Clock;
+use codes::racp::ALL_RECORDS;
+use codes::racp::REPORT_OPCODE;
 use day::reader::Note;
 use day::reader::Reader;
 use log::append::append;
 use record::kinds::Reading;
 use record::kinds::Record;
+use refusals::rows::LEAST_OUTPUT;
 use service::start::start;
 use sheet::text::Sight;
 use soundness::sound::sound;
@@ -17,6 +20,7 @@ use tablet::joining::Joining;
 use tablet::joining::join;
 use tablet::joining::restart;
 use tablet::reading::read_joined;
+use transfer::notify::LEAST_PAYLOAD;
 use transfer::notify::notify;
 ghost use mathlib.Core.Path.{_≡_};
 ghost use Rattle.evening.specs.Fetch.{loggedIn, keptIn, askedOf, heardOf, finishedOf, fetchedOf, sightOf};
@@ -66,8 +70,8 @@ fn asked(clock: Clock, table: [u8; 528]) -> Fetch
 {
     let mut copy = [0u8; 528];
     start(&mut copy);
-    let write = [1u8, 1];
-    let mut out = [0u8; 20];
+    let write = [REPORT_OPCODE, ALL_RECORDS];
+    let mut out = [0u8; LEAST_OUTPUT];
     let reply = record_access(clock, &table, &write, &mut out);
     let after = reply.clock;
     Fetch {
@@ -88,8 +92,8 @@ fn heard(f: Fetch, table: [u8; 528]) -> Fetch
     let before = f.clock;
     let joining = f.joining;
     let copy = f.copy;
-    let mut out = [0u8; 20];
-    let n = notify(before, &table, 20, &mut out);
+    let mut out = [0u8; LEAST_OUTPUT];
+    let n = notify(before, &table, LEAST_PAYLOAD, &mut out);
     let clock = n.clock;
     if n.closes {
         return Fetch {

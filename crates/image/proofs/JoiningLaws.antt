@@ -8,7 +8,8 @@ use lib.ListN.{length, take, drop, replicate, length-drop}
 use lib.Seq.{take-all, drop-cons}
 use Rattle.octets.specs.Numbers.{at}
 use Rattle.octets.specs.Parts.{over}
-use Rattle.tablet.specs.Joining.{mostBytes, emptyJoining}
+use Rattle.record.specs.Fields.{mostBytes}
+use Rattle.tablet.specs.Joining.{emptyJoining}
 use Rattle.tablet.specs.declared.joining.Joining.{Joining}
 use Rattle.image.specs.Joining.{joiningBytes, joiningImage, joiningIn}
 use Rattle.image.specs.Promises.{JoiningImages}

@@ -12,7 +12,8 @@ use Rattle.clock.specs.declared.state.Left.{Left}
 use Rattle.clock.specs.declared.state.Left.the-variants.{Nothing, From}
 use Rattle.clock.specs.declared.state.Running.{Running}
 use Rattle.clock.specs.declared.state.Running.the-variants.{Idle, Reporting}
-use Rattle.tablet.specs.Joining.{mostBytes, emptyJoining}
+use Rattle.record.specs.Fields.{mostBytes}
+use Rattle.tablet.specs.Joining.{emptyJoining}
 use Rattle.tablet.specs.declared.joining.Joining.{Joining}
 use Rattle.image.specs.State.{stateBytes, imageOf, clockIn, imageB, clockOf}
 use Rattle.image.specs.Joining.{joiningBytes, joiningImage, joiningIn}

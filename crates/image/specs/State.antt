@@ -7,6 +7,7 @@ use lib.ListN.{length}
 use Rattle.octets.specs.Choice.{both, pick}
 use Rattle.octets.specs.Numbers.{at, le16, le32, bytes2, bytes4}
 use Rattle.octets.specs.Parts.{sameB}
+use Rattle.codes.specs.Racp.{allRecords, atMost, atLeast, withinRange, firstRecord, lastRecord}
 use Rattle.filter.specs.declared.request.Filter.{Filter}
 use Rattle.filter.specs.declared.request.Filter.the-variants.{All, AtMost, AtLeast, Range, First, Last}
 use Rattle.clock.specs.Events.{withBase}
@@ -36,12 +37,12 @@ abbrev pub bounds : ℕ → ℕ → ℕ → Bounds
 bounds operator min max = record { operator = operator; minimum = min; maximum = max }
 
 unfoldable pub boundsOf : Filter → Bounds
-boundsOf All = bounds 1 0 0
-boundsOf (AtMost max) = bounds 2 0 max
-boundsOf (AtLeast min) = bounds 3 min 0
-boundsOf (Range min max) = bounds 4 min max
-boundsOf First = bounds 5 0 0
-boundsOf Last = bounds 6 0 0
+boundsOf All = bounds allRecords 0 0
+boundsOf (AtMost max) = bounds atMost 0 max
+boundsOf (AtLeast min) = bounds atLeast min 0
+boundsOf (Range min max) = bounds withinRange min max
+boundsOf First = bounds firstRecord 0 0
+boundsOf Last = bounds lastRecord 0 0
 
 -- bytes 24 to 27: is a record left, its number, how many of its bytes are sent
 abbrev pub unsent : ℕ → ℕ → ℕ → Unsent
@@ -84,11 +85,11 @@ imageOf c =
 -- The fields at their places. An operator outside 1 to 6 is read as All, which is written as 1.
 unfoldable pub filterIn : ℕ → ℕ → ℕ → Filter
 filterIn operator min max =
-    pick (eqb operator 2) (AtMost max)
-    (pick (eqb operator 3) (AtLeast min)
-    (pick (eqb operator 4) (Range min max)
-    (pick (eqb operator 5) First
-    (pick (eqb operator 6) Last
+    pick (eqb operator atMost) (AtMost max)
+    (pick (eqb operator atLeast) (AtLeast min)
+    (pick (eqb operator withinRange) (Range min max)
+    (pick (eqb operator firstRecord) First
+    (pick (eqb operator lastRecord) Last
     All))))
 
 unfoldable pub leftIn : ℕ → ℕ → ℕ → Left

@@ -1,6 +1,7 @@
 // The joining state as 48 bytes: phase, next counter, length, then the record's 45 bytes.
 use octets::parts::copy;
 use octets::parts::put;
+use record::kinds::MOST_BYTES;
 use tablet::joining::Joining;
 ghost use mathlib.Core.Path.{_≡_};
 ghost use lib.ListN.{length};
@@ -26,7 +27,7 @@ pub fn joining_in(s: &[u8]) -> Joining
     requires { ⌜ length (now s) ≡ joiningBytes ⌝ }
     ensures { λ r. ⌜ r ≡ joiningIn (now (s .entry)) ⌝ }
 {
-    let mut bytes = [0u8; 45];
+    let mut bytes = [0u8; MOST_BYTES as usize];
     copy(&mut bytes, &s[3..]);
     Joining {
         phase: s[0],

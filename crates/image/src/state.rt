@@ -6,6 +6,12 @@ use clock::state::Running;
 use clock::state::Switches;
 use clock::state::Time;
 use clock::state::new_reader;
+use codes::racp::ALL_RECORDS;
+use codes::racp::AT_LEAST;
+use codes::racp::AT_MOST;
+use codes::racp::FIRST_RECORD;
+use codes::racp::LAST_RECORD;
+use codes::racp::WITHIN_RANGE;
 use filter::request::Filter;
 use octets::numbers::get16;
 use octets::numbers::get32;
@@ -67,12 +73,12 @@ fn bounds_of(f: Filter) -> Bounds
     ensures { λ r. ⌜ r ≡ boundsOf f ⌝ }
 {
     match f {
-        Filter::All => bounds_at(1, 0, 0),
-        Filter::AtMost(max) => bounds_at(2, 0, max),
-        Filter::AtLeast(min) => bounds_at(3, min, 0),
-        Filter::Range(min, max) => bounds_at(4, min, max),
-        Filter::First => bounds_at(5, 0, 0),
-        Filter::Last => bounds_at(6, 0, 0),
+        Filter::All => bounds_at(ALL_RECORDS, 0, 0),
+        Filter::AtMost(max) => bounds_at(AT_MOST, 0, max),
+        Filter::AtLeast(min) => bounds_at(AT_LEAST, min, 0),
+        Filter::Range(min, max) => bounds_at(WITHIN_RANGE, min, max),
+        Filter::First => bounds_at(FIRST_RECORD, 0, 0),
+        Filter::Last => bounds_at(LAST_RECORD, 0, 0),
     }
 }
 
@@ -165,11 +171,11 @@ fn filter_in(operator: u8, minimum: u16, maximum: u16) -> Filter
     ensures { λ r. ⌜ r ≡ filterIn operator minimum maximum ⌝ }
 {
     match operator {
-        2 => Filter::AtMost(maximum),
-        3 => Filter::AtLeast(minimum),
-        4 => Filter::Range(minimum, maximum),
-        5 => Filter::First,
-        6 => Filter::Last,
+        AT_MOST => Filter::AtMost(maximum),
+        AT_LEAST => Filter::AtLeast(minimum),
+        WITHIN_RANGE => Filter::Range(minimum, maximum),
+        FIRST_RECORD => Filter::First,
+        LAST_RECORD => Filter::Last,
         _ => Filter::All,
     }
 }

@@ -45,16 +45,16 @@ use Rattle.update.proofs.accept.update_record.Kinds as update-record-kinds
 use Rattle.update.proofs.accept.update_record.Reads as update-record-reads
 use Rattle.update.proofs.response.response_of.Kinds as response-of-kinds
 use Rattle.update.proofs.response.response_of.Reads as response-of-reads
-use Rattle.access.proofs.codes.code_of.Kinds as code-of-kinds
-use Rattle.access.proofs.codes.code_of.Reads as code-of-reads
+use Rattle.codes.proofs.response.code_of.Kinds as code-of-kinds
+use Rattle.codes.proofs.response.code_of.Reads as code-of-reads
 use Rattle.access.proofs.request.opcode_in.Kinds as opcode-in-kinds
 use Rattle.access.proofs.request.opcode_in.Reads as opcode-in-reads
 use Rattle.access.proofs.request.request_of.Kinds as request-of-kinds
 use Rattle.access.proofs.request.request_of.Reads as request-of-reads
-use Rattle.access.proofs.response.code_bytes.Kinds as code-bytes-kinds
-use Rattle.access.proofs.response.code_bytes.Reads as code-bytes-reads
-use Rattle.access.proofs.response.count_bytes.Kinds as count-bytes-kinds
-use Rattle.access.proofs.response.count_bytes.Reads as count-bytes-reads
+use Rattle.codes.proofs.response.code_bytes.Kinds as code-bytes-kinds
+use Rattle.codes.proofs.response.code_bytes.Reads as code-bytes-reads
+use Rattle.codes.proofs.response.count_bytes.Kinds as count-bytes-kinds
+use Rattle.codes.proofs.response.count_bytes.Reads as count-bytes-reads
 use Rattle.asking.proofs.report.left_from.Kinds as left-from-kinds
 use Rattle.asking.proofs.report.left_from.Reads as left-from-reads
 

@@ -24,11 +24,11 @@ use Rattle.clock.specs.declared.state.Running.the-variants.{Idle, Reporting}
 use Rattle.refusals.specs.Outcome.{Outcome, doneB, refused, answered}
 use Rattle.refusals.specs.Rows.{firstFailed}
 use Rattle.service.specs.Promises.{Untouched}
-use Rattle.access.specs.Codes.{codeOf}
-use Rattle.access.specs.Request.{reportOpcode, abortOpcode, numberOpcode, combinedOpcode, opcodeIn, operatorIn, operandBytes, typedB, filterAt, operandOf, askedOf, abortOf, reportFor, numberFor, requestOf}
-use Rattle.access.specs.Response.{numberResponse, codeBytes, countBytes}
-use Rattle.access.specs.declared.codes.Code.{Code}
-use Rattle.access.specs.declared.codes.Code.the-variants.{OpcodeNotSupported, InvalidOperator, OperatorNotSupported, InvalidOperand, NoRecordsFound, OperandNotSupported}
+use Rattle.codes.specs.Response.{codeOf, codeBytes, countBytes}
+use Rattle.codes.specs.Racp.{reportOpcode, abortOpcode, numberOpcode, combinedOpcode, numberResponse}
+use Rattle.access.specs.Request.{opcodeIn, operatorIn, operandBytes, typedB, filterAt, operandOf, askedOf, abortOf, reportFor, numberFor, requestOf}
+use Rattle.codes.specs.declared.response.Code.{Code}
+use Rattle.codes.specs.declared.response.Code.the-variants.{OpcodeNotSupported, InvalidOperator, OperatorNotSupported, InvalidOperand, NoRecordsFound, OperandNotSupported}
 use Rattle.access.specs.declared.request.Asked.{Asked}
 use Rattle.access.specs.declared.request.Asked.the-variants as asked
 use Rattle.access.specs.declared.request.Request.{Request}

@@ -8,7 +8,8 @@ use native.Mathlib.Omega.{arith}
 use lib.ListN.{length}
 use Rattle.octets.specs.Choice.{pick}
 use Rattle.octets.proofs.Tests.{false-by, clash}
-use Rattle.tablet.specs.Joining.{inside, whole, mostBytes, emptyJoining, rangesB, insideB, body, takesB, numberOf, recordIn, Takes}
+use Rattle.record.specs.Fields.{mostBytes}
+use Rattle.tablet.specs.Joining.{inside, whole, emptyJoining, rangesB, insideB, body, takesB, numberOf, recordIn, Takes}
 use Rattle.outcomes.specs.OfTablet.{RefusedEmpties, RefusedAt, Refuses, KeepsRanges, BuildsUp}
 use Rattle.tablet.specs.declared.joining.Answer.the-variants.{Refused}
 use Rattle.tablet.specs.declared.joining.Joining.{Joining}

@@ -6,7 +6,8 @@ use mathlib.Core.List.{List, [], _++_}
 use Prim.Native.Nat.{ℕ, _<_}
 use lib.ListN.{length}
 use Rattle.octets.specs.Choice.{pick}
-use Rattle.tablet.specs.Joining.{empty, inside, mostBytes, emptyJoining, rangesB, insideB, firstBit, counterIn, body, lenAfter, takesB, joined, joinOf, numberOf, recordIn, Takes}
+use Rattle.record.specs.Fields.{mostBytes}
+use Rattle.tablet.specs.Joining.{empty, inside, emptyJoining, rangesB, insideB, firstBit, counterIn, body, lenAfter, takesB, joined, joinOf, numberOf, recordIn, Takes}
 use Rattle.tablet.specs.declared.joining.Answer.the-variants.{Refused}
 use Rattle.tablet.specs.declared.joining.Joining.{Joining}
 

@@ -18,10 +18,10 @@ use Rattle.clock.specs.declared.state.Running.the-variants.{Reporting}
 use Rattle.refusals.specs.Outcome.{Outcome, doneB, answered}
 use Rattle.refusals.specs.Rows.{firstFailed, wholeB}
 use Rattle.service.specs.Promises.{Untouched}
-use Rattle.access.specs.Codes.{codeOf}
+use Rattle.codes.specs.Response.{codeOf, codeBytes, countBytes}
 use Rattle.access.specs.Request.{opcodeIn, requestOf}
-use Rattle.access.specs.Response.{numberResponse, codeResponse, codeBytes, countBytes}
-use Rattle.access.specs.declared.codes.Code.the-variants.{NoRecordsFound}
+use Rattle.codes.specs.Racp.{numberResponse, codeResponse}
+use Rattle.codes.specs.declared.response.Code.the-variants.{NoRecordsFound}
 use Rattle.access.specs.declared.request.Request.{Request}
 use Rattle.access.specs.declared.request.Request.the-variants.{Report, Number, Abort, Refused}
 use Rattle.asking.specs.Report.{report, numberIn, noneB}

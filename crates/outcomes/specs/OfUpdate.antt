@@ -5,7 +5,8 @@ use mathlib.Core.List.{List, [], _∷_, _++_}
 use Prim.Native.Nat.{ℕ, _+_}
 use Rattle.octets.specs.Numbers.{bytes2, bytes4}
 use Rattle.judging.specs.Grounds.{unrealistic, outOfRange, lowerQuality, wrongEpoch}
-use Rattle.update.specs.Decide.{proposeOpcode, forceOpcode, decideOf}
+use Rattle.codes.specs.Dtcp.{proposeOpcode, forceOpcode}
+use Rattle.update.specs.Decide.{decideOf}
 use Rattle.outcomes.specs.UpdateCases.{f2}
 use Rattle.judging.specs.declared.proposal.Proposal.{Proposal}
 use Rattle.update.specs.declared.decide.Decision.the-variants.{Rejected, Taken}

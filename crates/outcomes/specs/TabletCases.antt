@@ -8,7 +8,8 @@ use Rattle.octets.specs.Parts.{over, zerosB}
 use Rattle.rules.specs.Rules.{baseB, zoneB, dstB, sourceB, statusB, bitsB}
 use Rattle.layout.specs.Layout.{updateAt, faultAt, recordOf, sizedB, shapeB}
 use Rattle.coding.specs.WellFormed.{updateB, faultB, recordB, wellFormedB, readOf, numberOf as readingNumber}
-use Rattle.tablet.specs.Joining.{empty, whole, inside, mostBytes, joining, blank, emptyJoining, rangesB, filledB, placedB, followsB, standing, takesB, ground, takenOf, joinOf, numberOf, recordIn}
+use Rattle.record.specs.Fields.{mostBytes}
+use Rattle.tablet.specs.Joining.{empty, whole, inside, joining, blank, emptyJoining, rangesB, filledB, placedB, followsB, standing, takesB, ground, takenOf, joinOf, numberOf, recordIn}
 use Rattle.tablet.specs.Reading.{readJoinedOf}
 use Rattle.tablet.specs.declared.joining.Answer.{Answer}
 use Rattle.tablet.specs.declared.joining.Answer.the-variants.{More, Whole, Refused}

@@ -33,9 +33,8 @@ use Rattle.clock.specs.declared.state.Running.{Running}
 use Rattle.clock.specs.declared.state.Running.the-variants.{Idle, Reporting}
 use Rattle.refusals.specs.Outcome.{Outcome, outcome, reply, doneB, refused, answered}
 use Rattle.refusals.specs.Rows.{firstFailed, leftB, runningB, wholeB, tableRows, writeRows}
-use Rattle.access.specs.Codes.{codeOf}
+use Rattle.codes.specs.Response.{codeOf, codeBytes, countBytes}
 use Rattle.access.specs.Request.{operandBytes, typedB, filterAt, operandOf, askedOf, abortOf, requestOf}
-use Rattle.access.specs.Response.{codeBytes, countBytes}
 use Rattle.asking.specs.Report.{report, numberIn, bytesIn, leftAt, leftFrom}
 use Rattle.asking.specs.Access.{accessRows, accessed, begunOf, abortedOf, accessedOf, accessOf}
 use Rattle.transfer.specs.Notify.{Notice, notice, unsaid, roomB, notifyRows, headerOf, segmentOf, leftAfter, closingOf, saidOf, noticed, runningNotice, notifyOf}

@@ -20,7 +20,6 @@ use Rattle.clock.proofs.EventLaws.{with-running-obeys}
 use Rattle.refusals.specs.Outcome.{doneB}
 use Rattle.refusals.proofs.RowLaws.{whole-reads}
 use Rattle.access.specs.Request.{opcodeIn, requestOf}
-use Rattle.access.specs.Response.{codeBytes}
 use Rattle.access.specs.declared.request.Request.the-variants.{Report}
 use Rattle.asking.specs.Report.{report, leftFrom}
 use Rattle.asking.specs.Access.{accessed, begunOf, accessedOf, responseIn, accessOf}

@@ -14,9 +14,8 @@ use Rattle.record.specs.declared.kinds.Reading.the-variants.{Is}
 use Rattle.table.specs.Table.{soundB}
 use Rattle.held.specs.Matching.{matching}
 use Rattle.clock.specs.Rules.{opcodeB}
-use Rattle.access.specs.Codes.{codeOf}
+use Rattle.codes.specs.Response.{codeOf, codeBytes, countBytes}
 use Rattle.access.specs.Request.{opcodeIn}
-use Rattle.access.specs.Response.{codeBytes, countBytes}
 use Rattle.transfer.specs.Notify.{notifyOf}
 use Rattle.tablet.specs.Joining.{emptyJoining}
 use Rattle.promises.specs.Hearing.{Hearing}

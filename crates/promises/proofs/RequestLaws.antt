@@ -9,7 +9,7 @@ use borrow.Author.Tests.{eq-eqb}
 use Rattle.filter.specs.declared.request.Filter.{Filter}
 use Rattle.clock.specs.Rules.{opcodeB, filterB}
 use Rattle.access.specs.Request.{opcodeIn, requestOf}
-use Rattle.access.specs.declared.codes.Code.{Code}
+use Rattle.codes.specs.declared.response.Code.{Code}
 use Rattle.access.specs.declared.request.Request.{Request}
 use Rattle.access.specs.declared.request.Request.the-variants.{Report, Number, Abort, Refused}
 use Rattle.access.proofs.RequestLaws.{asked-for, report-reads, number-reads, abort-reads}

@@ -33,8 +33,8 @@ use Rattle.refusals.specs.Outcome.{doneB}
 use Rattle.refusals.specs.Rows.{firstFailed, leftB, wholeB, tableRows}
 use Rattle.refusals.specs.Rows as rows
 use Rattle.refusals.proofs.RowLaws.{left-held}
-use Rattle.access.specs.Response.{codeBytes, countBytes}
-use Rattle.access.specs.declared.codes.Code.the-variants.{Success}
+use Rattle.codes.specs.Response.{codeBytes, countBytes}
+use Rattle.codes.specs.declared.response.Code.the-variants.{Success}
 use Rattle.asking.specs.Report.{report, bytesIn, leftFrom}
 use Rattle.transfer.specs.Notify.{roomB, notifyRows, counterAfter, lastB, segmentOf, leftAfter, closingOf, Said, saidOf, Notice, unsaid, noticed, runningNotice, notifyOf}
 use Rattle.promises.specs.World.{world, notify, stepBy, stepOf}

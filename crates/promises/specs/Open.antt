@@ -29,10 +29,9 @@ use Rattle.refusals.specs.Rows as rows
 use Rattle.service.specs.Start.{newReaderOf}
 use Rattle.service.specs.Fault.{countAfter, faultRecord, faultedOf, endingOf, faultOf}
 use Rattle.service.specs.Update.{updateRows, tableAfter, settledOf, effectOf, updateOf}
-use Rattle.access.specs.Codes.{codeOf}
 use Rattle.access.specs.Request.{operandBytes, typedB, filterAt, askedOf, abortOf, requestOf}
 use Rattle.access.specs.Request as request
-use Rattle.access.specs.Response.{codeBytes, countBytes}
+use Rattle.codes.specs.Response.{codeOf, codeBytes, countBytes}
 use Rattle.asking.specs.Report.{numberIn, leftAt, leftFrom}
 use Rattle.asking.specs.Report as reports
 use Rattle.asking.specs.Access.{accessRows, accessed, begunOf, abortedOf, accessedOf, accessOf}

@@ -62,10 +62,18 @@ abbrev pub idleB : Running → Bool
 idleB Idle = true
 idleB (Reporting r) = false
 
+-- row 3: "output shorter than 20 bytes"
+abbrev pub leastOutput : ℕ
+leastOutput = 20
+
+-- row 4: "control point write of 0 bytes or over 20"
+abbrev pub mostWrite : ℕ
+mostWrite = 20
+
 -- rows 1, 2, 3: "log table not sound", "clock state breaks a rule above", "output shorter than 20 bytes"
 unfoldable pub tableRows : Clock → List ℕ → Bool → List Row
 tableRows c t room = row (soundB t) TableNotSound ∷ row (wholeB c t) ClockBroken ∷ row room OutputShort ∷ []
 
 -- rows 4, 5, 6: "control point write of 0 bytes or over 20", "indications off for that point", "a report is running"
 unfoldable pub writeRows : ℕ → Bool → Bool → List Row
-writeRows n on free = row (both (leb 1 n) (leb n 20)) WriteLength ∷ row on SwitchedOff ∷ row free ReportRunning ∷ []
+writeRows n on free = row (both (leb 1 n) (leb n mostWrite)) WriteLength ∷ row on SwitchedOff ∷ row free ReportRunning ∷ []

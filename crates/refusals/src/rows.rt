@@ -10,6 +10,12 @@ use soundness::sound::sound;
 ghost use mathlib.Core.Path.{_≡_};
 ghost use Rattle.refusals.specs.Rows.{idleB, firstFailed, thenOf, tableRows, writeRows};
 
+// "Output shorter than 20 bytes."
+pub const LEAST_OUTPUT: usize = 20;
+
+// "Control point write of 0 bytes or over 20."
+pub const MOST_WRITE: usize = 20;
+
 // Is no report running?
 pub fn idle(running: Running) -> bool
     ensures { λ r. ⌜ r ≡ idleB running ⌝ }
@@ -47,7 +53,7 @@ pub fn write_rows(len: usize, on: bool, free: bool) -> Answer
     if len < 1 {
         return Answer::WriteLength;
     }
-    if 20 < len {
+    if MOST_WRITE < len {
         return Answer::WriteLength;
     }
     if !on {

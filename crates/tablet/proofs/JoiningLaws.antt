@@ -13,7 +13,8 @@ use Rattle.octets.specs.Choice.{both, either, pick}
 use Rattle.octets.specs.Parts.{over}
 use Rattle.octets.proofs.PartLaws.{length-over}
 use Rattle.octets.proofs.Tests.{false-by, both-reads, both-assoc}
-use Rattle.tablet.specs.Joining.{empty, whole, inside, mostBytes, joining, blank, emptyJoining, rangesB, insideB, firstBit, lastBit, counterIn, body, filledB, placedB, followsB, standing, lenAfter, takesB, ground, joined, takenOf, joinOf, recordIn, Ranges, Takes}
+use Rattle.record.specs.Fields.{mostBytes}
+use Rattle.tablet.specs.Joining.{empty, whole, inside, joining, blank, emptyJoining, rangesB, insideB, firstBit, lastBit, counterIn, body, filledB, placedB, followsB, standing, lenAfter, takesB, ground, joined, takenOf, joinOf, recordIn, Ranges, Takes}
 use Rattle.tablet.specs.declared.joining.Answer.the-variants.{More, Whole, Refused}
 use Rattle.tablet.specs.declared.joining.Joining.{Joining}
 use Rattle.tablet.specs.declared.joining.Joined.{Joined}

@@ -13,7 +13,7 @@ use Rattle.layout.specs.Layout.{shapeB, recordOf}
 use Rattle.coding.specs.WellFormed.{recordB, wellFormedB, readOf}
 use Rattle.record.specs.declared.kinds.Reading.the-variants.{Refused}
 use Rattle.coding.proofs.ShapeLaws.{sized-reads, shape-sized}
-use Rattle.tablet.specs.Joining.{mostBytes}
+use Rattle.record.specs.Fields.{mostBytes}
 use Rattle.tablet.specs.Reading.{readJoinedOf}
 use Rattle.tablet.specs.declared.joining.Joining.{Joining}
 

@@ -9,6 +9,7 @@ use lib.ListN.{length, take, drop, replicate}
 use Rattle.octets.specs.Choice.{both, either, pick}
 use Rattle.octets.specs.Numbers.{at}
 use Rattle.octets.specs.Parts.{over}
+use Rattle.record.specs.Fields.{mostBytes}
 use Rattle.tablet.specs.declared.joining.Answer.{Answer}
 use Rattle.tablet.specs.declared.joining.Answer.the-variants.{More, Whole, Refused}
 use Rattle.tablet.specs.declared.joining.Joining.{Joining}
@@ -23,10 +24,6 @@ whole = 1
 
 abbrev pub inside : ℕ
 inside = 2
-
--- "over 45 bytes"
-abbrev pub mostBytes : ℕ
-mostBytes = 45
 
 abbrev pub joining : ℕ → ℕ → ℕ → List ℕ → Joining
 joining phase counter len bytes = record { phase = phase; counter = counter; len = len; bytes = bytes }

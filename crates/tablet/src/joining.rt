@@ -2,6 +2,7 @@
 // refusing a segment, what a segment that is taken leaves, and the call.
 use octets::choice::both;
 use octets::parts::put;
+use record::kinds::MOST_BYTES;
 ghost use mathlib.Core.Path.{_≡_};
 ghost use Prim.Native.Nat.{_+_, _/_, _%_, _≤_};
 ghost use lib.Dec.{leb, eqb};
@@ -17,9 +18,6 @@ pub const WHOLE: u8 = 1;
 
 pub const INSIDE: u8 = 2;
 
-// "over 45 bytes"
-pub const MOST_BYTES: u8 = 45;
-
 // "bits 2-7 a counter that .. rises by 1 per notification, 63 then 0"
 const LAST_COUNTER: u8 = 63;
 
@@ -29,7 +27,7 @@ pub struct Joining {
     // of the notification that follows
     pub counter: u8,
     pub len: u8,
-    pub bytes: [u8; 45],
+    pub bytes: [u8; MOST_BYTES as usize],
 }
 
 pub enum Answer {
@@ -62,7 +60,7 @@ pub fn restart() -> Joining
         phase: EMPTY,
         counter: 0,
         len: 0,
-        bytes: [0u8; 45],
+        bytes: [0u8; MOST_BYTES as usize],
     }
 }
 
@@ -130,16 +128,16 @@ fn takes(j: Joining, note: &[u8]) -> bool
 }
 
 // A first segment clears the bytes, a later one keeps those it does not write.
-fn ground(j: Joining) -> [u8; 45]
+fn ground(j: Joining) -> [u8; MOST_BYTES as usize]
     ensures { λ r. ⌜ r ≡ Joining·ground j ⌝ }
 {
     if j.phase == INSIDE {
         return j.bytes;
     }
-    [0u8; 45]
+    [0u8; MOST_BYTES as usize]
 }
 
-fn with_body(j: Joining, note: &[u8]) -> [u8; 45]
+fn with_body(j: Joining, note: &[u8]) -> [u8; MOST_BYTES as usize]
     requires { ⌜ Takes j (now note) ⌝ }
     ensures { λ r. ⌜ r ≡ over (Joining·ground j) (Joining·standing j) (body (now (note .entry))) ⌝ }
 {

@@ -1,7 +1,7 @@
 // Reading the record that was joined, by the rule for all records (document 01, "Log table, a lent buffer").
 use crate::joining::Joining;
-use crate::joining::MOST_BYTES;
 use coding::reading::read;
+use record::kinds::MOST_BYTES;
 use record::kinds::Reading;
 ghost use mathlib.Core.Path.{_≡_};
 ghost use Rattle.tablet.specs.Reading.{readJoinedOf};

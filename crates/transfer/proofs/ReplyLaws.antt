@@ -19,9 +19,9 @@ use Rattle.clock.specs.declared.state.Running.the-variants.{Idle, Reporting}
 use Rattle.refusals.specs.Outcome.{doneB}
 use Rattle.refusals.proofs.ReplyLaws.{brokenOf, Replies, broken-refused, rows-broken}
 use Rattle.refusals.proofs.RowLaws.{table-all}
-use Rattle.access.specs.Request.{reportOpcode, combinedOpcode}
-use Rattle.access.specs.Response.{combinedResponse, codeBytes, countBytes}
-use Rattle.access.specs.declared.codes.Code.the-variants.{Success}
+use Rattle.codes.specs.Racp.{reportOpcode, combinedOpcode, combinedResponse}
+use Rattle.codes.specs.Response.{codeBytes, countBytes}
+use Rattle.codes.specs.declared.response.Code.the-variants.{Success}
 use Rattle.transfer.specs.Notify.{roomB, notifyRows, segmentOf, closingOf, saidOf, noticed, notifyOf}
 use Rattle.transfer.proofs.NotifyLaws.{tables, notify-idle, notify-refused, notify-said, ready}
 

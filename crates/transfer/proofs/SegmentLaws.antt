@@ -18,9 +18,9 @@ use Rattle.held.specs.Matching.{matching}
 use Rattle.clock.specs.declared.state.Left.{Left}
 use Rattle.clock.specs.declared.state.Left.the-variants.{From}
 use Rattle.clock.specs.declared.state.Report.{Report}
-use Rattle.access.specs.Request.{reportOpcode, combinedOpcode}
-use Rattle.access.specs.Response.{combinedResponse, codeBytes, countBytes}
-use Rattle.access.specs.declared.codes.Code.the-variants.{Success}
+use Rattle.codes.specs.Racp.{reportOpcode, combinedOpcode, combinedResponse}
+use Rattle.codes.specs.Response.{codeBytes, countBytes}
+use Rattle.codes.specs.declared.response.Code.the-variants.{Success}
 use Rattle.asking.specs.Report.{leftFrom}
 use Rattle.transfer.specs.Notify.{leftAfter, closingOf}
 

@@ -21,15 +21,22 @@ use Rattle.clock.specs.declared.state.Running.{Running}
 use Rattle.clock.specs.declared.state.Running.the-variants.{Idle, Reporting}
 use Rattle.refusals.specs.Outcome.{doneB}
 use Rattle.refusals.specs.Rows.{Row, row, firstFailed, idleB, tableRows}
-use Rattle.access.specs.Request.{reportOpcode, combinedOpcode}
-use Rattle.access.specs.Response.{combinedResponse, codeBytes, countBytes}
-use Rattle.access.specs.declared.codes.Code.the-variants.{Success}
+use Rattle.codes.specs.Racp.{reportOpcode, combinedOpcode, combinedResponse}
+use Rattle.codes.specs.Response.{codeBytes, countBytes}
+use Rattle.codes.specs.declared.response.Code.the-variants.{Success}
 use Rattle.asking.specs.Report.{report, bytesIn, leftFrom}
 use Rattle.transfer.specs.declared.notify.Notified.{Notified}
 
+-- "payload size P outside 20 to 244"
+abbrev pub leastPayload : ℕ
+leastPayload = 20
+
+abbrev pub greatestPayload : ℕ
+greatestPayload = 244
+
 -- row 3: "for a notification, payload size P outside 20 to 244 or output shorter than P"
 unfoldable pub roomB : ℕ → ℕ → Bool
-roomB p o = both (both (leb 20 p) (leb p 244)) (leb p o)
+roomB p o = both (both (leb leastPayload p) (leb p greatestPayload)) (leb p o)
 
 -- rows 1, 2, 3 and 8: "notification asked for, no report running"
 unfoldable pub notifyRows : Clock → List ℕ → ℕ → List ℕ → List Row

@@ -1,11 +1,5 @@
 // A notification of the running report (document 01, "RACP and notifications"): rows 1, 2, 3 and 8, then a segment of
 // its next record, or the closing response.
-use access::codes::Code;
-use access::request::COMBINED_OPCODE;
-use access::request::REPORT_OPCODE;
-use access::response::COMBINED_RESPONSE;
-use access::response::code_bytes;
-use access::response::count_bytes;
 use asking::report::left_from;
 use clock::answers::Answer;
 use clock::state::Clock;
@@ -13,6 +7,12 @@ use clock::state::Left;
 use clock::state::Report;
 use clock::state::Running;
 use clock::state::with_running;
+use codes::racp::COMBINED_OPCODE;
+use codes::racp::COMBINED_RESPONSE;
+use codes::racp::REPORT_OPCODE;
+use codes::response::Code;
+use codes::response::code_bytes;
+use codes::response::count_bytes;
 use filter::request::Filter;
 use held::look::age_of;
 use held::look::record_at;
@@ -50,11 +50,19 @@ pub struct Notified {
     pub len: usize,
 }
 
-// Row 3: a payload size of 20 to 244, and room for it.
+// "Payload size P outside 20 to 244."
+pub const LEAST_PAYLOAD: u32 = 20;
+
+pub const GREATEST_PAYLOAD: u32 = 244;
+
+// Row 3: a payload size within these, and room for it.
 fn room(p: u32, out: usize) -> bool
     ensures { λ r. ⌜ r ≡ roomB p out ⌝ }
 {
-    both(both(20 <= p, p <= 244), p as usize <= out)
+    both(
+        both(LEAST_PAYLOAD <= p, p <= GREATEST_PAYLOAD),
+        p as usize <= out,
+    )
 }
 
 fn bit(b: bool) -> u8

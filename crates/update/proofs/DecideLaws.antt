@@ -13,7 +13,8 @@ use Rattle.octets.specs.Numbers.{at}
 use Rattle.clock.specs.declared.state.Clock.{Clock}
 use Rattle.judging.specs.Proposal.{updateWriteBytes, proposalAt}
 use Rattle.judging.specs.Grounds.{groundsOf}
-use Rattle.update.specs.Decide.{proposeOpcode, forceOpcode, judged, operandOf, decideOf, TakenFrom}
+use Rattle.codes.specs.Dtcp.{proposeOpcode, forceOpcode}
+use Rattle.update.specs.Decide.{judged, operandOf, decideOf, TakenFrom}
 use Rattle.judging.specs.declared.proposal.Proposal.{Proposal}
 use Rattle.update.specs.declared.decide.Decision.the-variants.{Unsupported, WrongLength, Rejected, Taken}
 use Rattle.judging.proofs.GroundLaws.{grounds-none}

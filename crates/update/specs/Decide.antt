@@ -8,19 +8,13 @@ use lib.Dec.{eqb}
 use lib.ListN.{length}
 use Rattle.octets.specs.Choice.{pick}
 use Rattle.octets.specs.Numbers.{at}
+use Rattle.codes.specs.Dtcp.{proposeOpcode, forceOpcode}
 use Rattle.clock.specs.declared.state.Clock.{Clock}
 use Rattle.judging.specs.Proposal.{updateWriteBytes, proposalAt}
 use Rattle.judging.specs.Grounds.{groundsOf, InRange}
 use Rattle.judging.specs.declared.proposal.Proposal.{Proposal}
 use Rattle.update.specs.declared.decide.Decision.{Decision}
 use Rattle.update.specs.declared.decide.Decision.the-variants.{Unsupported, WrongLength, Rejected, Taken}
-
--- Propose and Force Time Update (document 002, Table 3.15)
-abbrev pub proposeOpcode : ℕ
-proposeOpcode = 2
-
-abbrev pub forceOpcode : ℕ
-forceOpcode = 3
 
 -- "all flags that apply go into Procedure Rejected"; a proposal without a ground is taken
 unfoldable pub judged : Proposal → ℕ → Decision

@@ -3,26 +3,10 @@ use mathlib.Core.List.{List, [], _∷_, _++_}
 use Prim.Native.Nat.{ℕ, _-_}
 use lib.ListN.{length, replicate}
 use Rattle.octets.specs.Numbers.{bytes2}
+use Rattle.codes.specs.Dtcp.{responseOpcode, success, opcodeNotSupported, invalidOperand, procedureRejected}
 use Rattle.update.specs.declared.decide.Decision.{Decision}
 use Rattle.update.specs.declared.decide.Decision.the-variants.{Unsupported, WrongLength, Rejected, Taken}
 use Rattle.update.specs.declared.response.Response.{Response}
-
--- DTCP Response, Table 3.15
-abbrev pub responseOpcode : ℕ
-responseOpcode = 0x09
-
--- the Response_Values of Table 3.21 that are given
-abbrev pub success : ℕ
-success = 0x01
-
-abbrev pub opcodeNotSupported : ℕ
-opcodeNotSupported = 0x02
-
-abbrev pub invalidOperand : ℕ
-invalidOperand = 0x03
-
-abbrev pub procedureRejected : ℕ
-procedureRejected = 0x05
 
 -- Table 3.20: the opcode of the write, the Response_Value, and the flags "if the Response_Value is Procedure Rejected, otherwise
 -- Excluded".

@@ -1,6 +1,8 @@
 // What is to happen with a write to the Device Time Control Point (document 01, "Time updates"): by its opcode, then
 // its length, then its grounds.
 use clock::state::Clock;
+use codes::dtcp::FORCE_OPCODE;
+use codes::dtcp::PROPOSE_OPCODE;
 use judging::grounds::grounds;
 use judging::proposal::Proposal;
 use judging::proposal::proposal_at;
@@ -8,11 +10,6 @@ ghost use mathlib.Core.Path.{_≡_};
 ghost use Prim.Native.Nat.{_≤_};
 ghost use lib.ListN.{length};
 ghost use Rattle.update.specs.Decide.{operandOf, decideOf};
-
-// The opcodes of the two procedures, Table 3.15.
-pub const PROPOSE_OPCODE: u8 = 2;
-
-pub const FORCE_OPCODE: u8 = 3;
 
 // The opcode and the operand's 10 bytes.
 const UPDATE_WRITE_BYTES: usize = 11;

@@ -1,20 +1,14 @@
 // The DTCP response to a decision (document 002, Tables 3.20 and 3.21). None requires anything.
 use crate::decide::Decision;
+use codes::dtcp::INVALID_OPERAND;
+use codes::dtcp::OPCODE_NOT_SUPPORTED;
+use codes::dtcp::PROCEDURE_REJECTED;
+use codes::dtcp::RESPONSE_OPCODE;
+use codes::dtcp::SUCCESS;
 ghost use mathlib.Core.Path.{_≡_};
 ghost use mathlib.Core.List.{[], _∷_};
-ghost use Rattle.update.specs.Response.{responseOpcode, padded, responseOf};
-
-// The opcode of a DTCP response, Table 3.15.
-pub const RESPONSE_OPCODE: u8 = 9;
-
-// Response_Values, Table 3.21.
-pub const SUCCESS: u8 = 1;
-
-pub const OPCODE_NOT_SUPPORTED: u8 = 2;
-
-pub const INVALID_OPERAND: u8 = 3;
-
-pub const PROCEDURE_REJECTED: u8 = 5;
+ghost use Rattle.codes.specs.Dtcp.{responseOpcode};
+ghost use Rattle.update.specs.Response.{padded, responseOf};
 
 // A response's bytes, and zeros after them up to the longest response's length.
 pub struct Response {

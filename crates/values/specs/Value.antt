@@ -12,7 +12,7 @@ use Rattle.clock.specs.declared.answers.Answer.{Answer}
 use Rattle.clock.specs.declared.answers.Answer.the-variants.{Done, OutputShort}
 use Rattle.clock.specs.declared.state.Clock.{Clock}
 use Rattle.refusals.specs.Outcome.{Outcome, doneB, refused, answered}
-use Rattle.refusals.specs.Rows.{firstFailed, tableRows}
+use Rattle.refusals.specs.Rows.{leastOutput, firstFailed, tableRows}
 use Rattle.values.specs.declared.value.Value.{Value}
 
 -- Table 3.2: E2E_CRC, which is 0xFFFF "if the Server does not support the E2E-CRC feature" (Section 3.1.1.1), and DT_Features: bit 1 time
@@ -32,7 +32,7 @@ deviceTimeBytes c n = bytes4 (c .time .base) ++ (c .time .zone ∷ c .time .dst 
 -- rows 1, 2, 3; clock and table stay
 unfoldable pub deviceTimeOf : Clock → List ℕ → List ℕ → Outcome
 deviceTimeOf c t o =
-    let a = firstFailed (tableRows c t (leb 20 (length o))) in
+    let a = firstFailed (tableRows c t (leb leastOutput (length o))) in
     pick (doneB a) (answered c t (deviceTimeBytes c (next t)) o) (refused a c t o)
 
 -- a value that hangs on no clock: the answer, how many bytes it is, and the output after it
@@ -48,7 +48,7 @@ value a n = record { answer = a; len = n }
 
 -- row 3: "output shorter than 20 bytes"; "output past a response .. keeps its old bytes"
 unfoldable pub toldOf : List ℕ → List ℕ → Told
-toldOf v o = pick (leb 20 (length o)) (told (value Done (length v)) (over o 0 v)) (told (value OutputShort 0) o)
+toldOf v o = pick (leb leastOutput (length o)) (told (value Done (length v)) (over o 0 v)) (told (value OutputShort 0) o)
 
 unfoldable pub featureOf : List ℕ → Told
 featureOf o = toldOf featureBytes o

@@ -6,6 +6,7 @@ use held::look::next_number;
 use octets::parts::put;
 use refusals::reply::Reply;
 use refusals::reply::done;
+use refusals::rows::LEAST_OUTPUT;
 use refusals::rows::table_rows;
 ghost use mathlib.Core.Path.{_≡_};
 ghost use Rattle.refusals.specs.Outcome.{outcome};
@@ -47,7 +48,7 @@ fn device_time_bytes(c: Clock, next: u16) -> [u8; 10]
 pub fn device_time(c: Clock, t: &[u8], out: &mut [u8]) -> Reply
     ensures { λ r. ⌜ outcome r (now (t .entry)) (now (out .exit)) ≡ deviceTimeOf c (now (t .entry)) (now (out .entry)) ⌝ }
 {
-    let answer = table_rows(c, t, 20 <= out.len());
+    let answer = table_rows(c, t, LEAST_OUTPUT <= out.len());
     if !done(answer) {
         return Reply {
             answer,
@@ -68,7 +69,7 @@ pub fn device_time(c: Clock, t: &[u8], out: &mut [u8]) -> Reply
 fn tell(value: [u8; 4], out: &mut [u8]) -> Value
     ensures { λ r. ⌜ told r (now (out .exit)) ≡ toldOf value (now (out .entry)) ⌝ }
 {
-    if out.len() < 20 {
+    if out.len() < LEAST_OUTPUT {
         return Value {
             answer: Answer::OutputShort,
             len: 0,

@@ -6,7 +6,8 @@ use lib.Dec.{leb}
 use lib.ListN.{length}
 use borrow.Author.Tests.{not-true, not-false}
 use Rattle.octets.specs.Choice.{both}
-use Rattle.tablet.specs.Joining.{mostBytes, rangesB, body, placedB, followsB}
+use Rattle.record.specs.Fields.{mostBytes}
+use Rattle.tablet.specs.Joining.{rangesB, body, placedB, followsB}
 use Rattle.tablet.proofs.JoiningLaws.{takes-short, takes-not, takes-room, tested-ranges, standing-small, room-left}
 use borrow.Author.Needs.{needs}
 use native.Mathlib.Omega.{arith}

@@ -1,9 +1,9 @@
 -- `code_bytes` is `codeBytes`, by the code's number.
 -- Assumes nothing.
-use Rattle.access.specs.Response.{codeBytes}
+use Rattle.codes.specs.Response.{codeBytes}
 use borrow.Author.Needs.{needs}
-use Rattle.access.proofs.response.code_bytes.Statement.{statement}
-use Rattle.access.proofs.response.code_bytes.Tie as tie
+use Rattle.codes.proofs.response.code_bytes.Statement.{statement}
+use Rattle.codes.proofs.response.code_bytes.Tie as tie
 
 code-of-requires : tie.Need-code-of-requires
 code-of-requires c κs = search needs

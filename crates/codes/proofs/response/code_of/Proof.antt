@@ -1,9 +1,9 @@
 -- `code_of` is `codeOf`, code by code.
 -- Assumes nothing.
-use Rattle.access.specs.Codes.{codeOf}
+use Rattle.codes.specs.Response.{codeOf}
 use borrow.Author.Needs.{needs}
-use Rattle.access.proofs.codes.code_of.Statement.{statement}
-use Rattle.access.proofs.codes.code_of.Tie as tie
+use Rattle.codes.proofs.response.code_of.Statement.{statement}
+use Rattle.codes.proofs.response.code_of.Tie as tie
 
 enum-told : tie.Need-enum-told
 enum-told c = search needs
@@ -28,6 +28,9 @@ enum-told-7 c = search needs
 
 enum-told-8 : tie.Need-enum-told-8
 enum-told-8 c = search needs
+
+enum-told-9 : tie.Need-enum-told-9
+enum-told-9 c = search needs
 
 returns : tie.Need-returns
 unfolding codeOf
@@ -61,6 +64,10 @@ returns-8 : tie.Need-returns-8
 unfolding codeOf
 returns-8 c = rw (c .enum-told8 .given .1)
 
+returns-9 : tie.Need-returns-9
+unfolding codeOf
+returns-9 c = rw (c .enum-told9 .given .1)
+
 pub code-of-spec : {M : Type 1} → statement M
 code-of-spec =
     tie.close
@@ -73,6 +80,7 @@ code-of-spec =
     enum-told-6
     enum-told-7
     enum-told-8
+    enum-told-9
     returns
     returns-2
     returns-3
@@ -80,4 +88,5 @@ code-of-spec =
     returns-5
     returns-6
     returns-7
-    returns-8)
+    returns-8
+    returns-9)

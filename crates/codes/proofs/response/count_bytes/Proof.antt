@@ -1,10 +1,10 @@
 -- `count_bytes` is `countBytes`.
 -- Assumes nothing.
 use mathlib.Core.Path.{refl}
-use Rattle.access.specs.Response.{countBytes}
+use Rattle.codes.specs.Response.{countBytes}
 use borrow.Author.Needs.{needs}
-use Rattle.access.proofs.response.count_bytes.Statement.{statement}
-use Rattle.access.proofs.response.count_bytes.Tie as tie
+use Rattle.codes.proofs.response.count_bytes.Statement.{statement}
+use Rattle.codes.proofs.response.count_bytes.Tie as tie
 
 cast-low : tie.Need-cast-low
 cast-low c = search needs

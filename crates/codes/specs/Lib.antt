@@ -1,0 +1,3 @@
+pub mod Dtcp
+pub mod Racp
+pub mod Response
