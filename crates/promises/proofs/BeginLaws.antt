@@ -19,6 +19,7 @@ use Rattle.clock.proofs.RuleLaws.{running-makes}
 use Rattle.clock.proofs.EventLaws.{with-running-obeys}
 use Rattle.refusals.specs.Outcome.{doneB}
 use Rattle.refusals.proofs.RowLaws.{whole-reads}
+use Rattle.codes.specs.Response.{codeBytes}
 use Rattle.access.specs.Request.{opcodeIn, requestOf}
 use Rattle.access.specs.declared.request.Request.the-variants.{Report}
 use Rattle.asking.specs.Report.{report, leftFrom}
