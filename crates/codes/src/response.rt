@@ -2,6 +2,7 @@
 // operator Null, the operand. None requires anything.
 use crate::racp::CODE_RESPONSE;
 use crate::racp::NULL;
+use octets::numbers::bytes2;
 ghost use mathlib.Core.Path.{_≡_};
 ghost use Rattle.codes.specs.Response.{codeOf, codeBytes, countBytes};
 
@@ -46,7 +47,6 @@ pub fn code_bytes(opcode: u8, code: Code) -> [u8; 4]
 pub fn count_bytes(response: u8, n: u16) -> [u8; 4]
     ensures { λ r. ⌜ r ≡ countBytes response n ⌝ }
 {
-    let low = (n % 256) as u8;
-    let high = (n / 256 % 256) as u8;
-    [response, NULL, low, high]
+    let count = bytes2(n);
+    [response, NULL, count[0], count[1]]
 }

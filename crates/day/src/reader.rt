@@ -6,6 +6,7 @@ use clock::events::switches;
 use clock::state::Clock;
 use codes::dtcp::PROPOSE_OPCODE;
 use held::look::next_number;
+use octets::numbers::bytes4;
 use refusals::rows::LEAST_OUTPUT;
 use service::fault::fault;
 use service::start::start;
@@ -46,11 +47,8 @@ pub enum Event {
 fn proposal(base: u32) -> [u8; 11]
     ensures { λ w. ⌜ w ≡ proposalBytes base ⌝ }
 {
-    let a = (base % 256) as u8;
-    let b = (base / 256 % 256) as u8;
-    let c = (base / 65536 % 256) as u8;
-    let d = (base / 16777216 % 256) as u8;
-    [PROPOSE_OPCODE, 0x43, 0, a, b, c, d, 4, 0, 2, 1]
+    let b = bytes4(base);
+    [PROPOSE_OPCODE, 0x43, 0, b[0], b[1], b[2], b[3], 4, 0, 2, 1]
 }
 
 // A reader as it comes from its box, started.

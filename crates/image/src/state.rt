@@ -13,6 +13,8 @@ use codes::racp::FIRST_RECORD;
 use codes::racp::LAST_RECORD;
 use codes::racp::WITHIN_RANGE;
 use filter::request::Filter;
+use octets::numbers::bytes2;
+use octets::numbers::bytes4;
 use octets::numbers::get16;
 use octets::numbers::get32;
 ghost use mathlib.Core.Path.{_≡_};
@@ -130,34 +132,41 @@ pub fn image_of(c: Clock) -> [u8; 32]
     let f = fields_of(running);
     let b = f.bounds;
     let u = f.unsent;
+    let base = bytes4(c.time.base);
+    let status = bytes2(c.time.status);
+    let faults = bytes2(c.time.faults);
+    let aligned = bytes4(c.time.aligned);
+    let minimum = bytes2(b.minimum);
+    let maximum = bytes2(b.maximum);
+    let next = bytes2(u.next);
     [
-        (c.time.base % 256) as u8,
-        (c.time.base / 256 % 256) as u8,
-        (c.time.base / 65536 % 256) as u8,
-        (c.time.base / 16777216 % 256) as u8,
+        base[0],
+        base[1],
+        base[2],
+        base[3],
         c.time.zone,
         c.time.dst,
         c.time.source,
         c.time.accuracy,
-        (c.time.status % 256) as u8,
-        (c.time.status / 256 % 256) as u8,
-        (c.time.faults % 256) as u8,
-        (c.time.faults / 256 % 256) as u8,
-        (c.time.aligned % 256) as u8,
-        (c.time.aligned / 256 % 256) as u8,
-        (c.time.aligned / 65536 % 256) as u8,
-        (c.time.aligned / 16777216 % 256) as u8,
+        status[0],
+        status[1],
+        faults[0],
+        faults[1],
+        aligned[0],
+        aligned[1],
+        aligned[2],
+        aligned[3],
         switches_of(c.switches.dtcp, c.switches.racp, c.switches.log),
         f.opcode,
         b.operator,
-        (b.minimum % 256) as u8,
-        (b.minimum / 256 % 256) as u8,
-        (b.maximum % 256) as u8,
-        (b.maximum / 256 % 256) as u8,
+        minimum[0],
+        minimum[1],
+        maximum[0],
+        maximum[1],
         f.counter,
         u.left,
-        (u.next % 256) as u8,
-        (u.next / 256 % 256) as u8,
+        next[0],
+        next[1],
         u.sent,
         0,
         0,

@@ -2,7 +2,7 @@
 ghost use mathlib.Core.Path.{_≡_};
 ghost use Prim.Native.Nat.{_+_, _*_, _≤_};
 ghost use lib.ListN.{length};
-ghost use Rattle.octets.specs.Numbers.{le16, le32};
+ghost use Rattle.octets.specs.Numbers.{le16, le32, bytes2 as Numbers·bytes2, bytes4 as Numbers·bytes4};
 
 // Over bytes by value, so that each byte's bound is its type's.
 fn join2(a: u8, b: u8) -> u16
@@ -31,4 +31,23 @@ pub fn get32(s: &[u8], at: usize) -> u32
     ensures { λ r. ⌜ r ≡ le32 (now (s .entry)) at ⌝ }
 {
     join4(get16(s, at), get16(s, at + 2))
+}
+
+// `n` as two bytes.
+pub fn bytes2(n: u16) -> [u8; 2]
+    ensures { λ r. ⌜ r ≡ Numbers·bytes2 n ⌝ }
+{
+    [(n % 256) as u8, (n / 256 % 256) as u8]
+}
+
+// `n` as four bytes.
+pub fn bytes4(n: u32) -> [u8; 4]
+    ensures { λ r. ⌜ r ≡ Numbers·bytes4 n ⌝ }
+{
+    [
+        (n % 256) as u8,
+        (n / 256 % 256) as u8,
+        (n / 65536 % 256) as u8,
+        (n / 16777216 % 256) as u8,
+    ]
 }

@@ -5,6 +5,7 @@ use codes::dtcp::OPCODE_NOT_SUPPORTED;
 use codes::dtcp::PROCEDURE_REJECTED;
 use codes::dtcp::RESPONSE_OPCODE;
 use codes::dtcp::SUCCESS;
+use octets::numbers::bytes2;
 ghost use mathlib.Core.Path.{_≡_};
 ghost use mathlib.Core.List.{[], _∷_};
 ghost use Rattle.codes.specs.Dtcp.{responseOpcode};
@@ -32,16 +33,13 @@ pub fn response_of(opcode: u8, d: Decision) -> Response
     match d {
         Decision::Unsupported => short(opcode, OPCODE_NOT_SUPPORTED),
         Decision::WrongLength => short(opcode, INVALID_OPERAND),
-        Decision::Rejected(flags) => Response {
-            len: 5,
-            bytes: [
-                RESPONSE_OPCODE,
-                opcode,
-                PROCEDURE_REJECTED,
-                (flags % 256) as u8,
-                (flags / 256 % 256) as u8,
-            ],
-        },
+        Decision::Rejected(flags) => {
+            let f = bytes2(flags);
+            Response {
+                len: 5,
+                bytes: [RESPONSE_OPCODE, opcode, PROCEDURE_REJECTED, f[0], f[1]],
+            }
+        }
         Decision::Taken(_) => short(opcode, SUCCESS),
     }
 }

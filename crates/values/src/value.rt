@@ -3,6 +3,8 @@
 use clock::answers::Answer;
 use clock::state::Clock;
 use held::look::next_number;
+use octets::numbers::bytes2;
+use octets::numbers::bytes4;
 use octets::parts::put;
 use refusals::reply::Reply;
 use refusals::reply::done;
@@ -30,17 +32,20 @@ pub struct Value {
 fn device_time_bytes(c: Clock, next: u16) -> [u8; 10]
     ensures { λ r. ⌜ r ≡ deviceTimeBytes c next ⌝ }
 {
+    let base = bytes4(c.time.base);
+    let status = bytes2(c.time.status);
+    let number = bytes2(next);
     [
-        (c.time.base % 256) as u8,
-        (c.time.base / 256 % 256) as u8,
-        (c.time.base / 65536 % 256) as u8,
-        (c.time.base / 16777216 % 256) as u8,
+        base[0],
+        base[1],
+        base[2],
+        base[3],
         c.time.zone,
         c.time.dst,
-        (c.time.status % 256) as u8,
-        (c.time.status / 256 % 256) as u8,
-        (next % 256) as u8,
-        (next / 256 % 256) as u8,
+        status[0],
+        status[1],
+        number[0],
+        number[1],
     ]
 }
 

@@ -1,26 +1,30 @@
--- Byte by byte.
+-- Byte by byte; the Base_Time by `bytes4`.
 -- Assumes nothing.
-use mathlib.Core.Path.{refl}
 use Rattle.day.specs.Reader.{proposalBytes}
 use borrow.Author.Needs.{needs}
 use Rattle.day.proofs.reader.proposal.Statement.{statement}
 use Rattle.day.proofs.reader.proposal.Tie as tie
 
-cast-a : tie.Need-cast-a
-cast-a c = search needs
+bytes4-requires : tie.Need-bytes4-requires
+bytes4-requires c κs = search needs
 
-cast-b : tie.Need-cast-b
-cast-b c = search needs
+array-read-t6 : tie.Need-array-read-t6
+array-read-t6 c = search needs
 
-cast-c : tie.Need-cast-c
-cast-c c = search needs
+array-read-t9 : tie.Need-array-read-t9
+array-read-t9 c = search needs
 
-cast-d : tie.Need-cast-d
-cast-d c = search needs
+array-read-t12 : tie.Need-array-read-t12
+array-read-t12 c = search needs
+
+array-read-t15 : tie.Need-array-read-t15
+array-read-t15 c = search needs
 
 returns : tie.Need-returns
 unfolding proposalBytes
-returns c = refl
+returns c = rw (c .bytes4 .ensures)
 
 pub proposal-spec : {M : Type 1} → statement M
-proposal-spec = tie.close (tie.spec cast-a cast-b cast-c cast-d returns)
+proposal-spec =
+    tie.close
+    (tie.spec bytes4-requires array-read-t6 array-read-t9 array-read-t12 array-read-t15 returns)

@@ -20,11 +20,14 @@ short-requires-2 c κs = search needs
 enum-known-d : tie.Need-enum-known-d
 enum-known-d c = search needs
 
-cast-t6 : tie.Need-cast-t6
-cast-t6 c = search needs
+bytes2-requires : tie.Need-bytes2-requires
+bytes2-requires c κs = search needs
 
-cast-t9 : tie.Need-cast-t9
-cast-t9 c = search needs
+array-read-t9 : tie.Need-array-read-t9
+array-read-t9 c = search needs
+
+array-read-t12 : tie.Need-array-read-t12
+array-read-t12 c = search needs
 
 enum-told-3 : tie.Need-enum-told-3
 enum-told-3 c = search needs
@@ -42,7 +45,7 @@ returns-2 c = rw (c .before .enum-told2 .given .1) (c .short2 .ensures)
 
 returns-3 : tie.Need-returns-3
 unfolding responseOf responseBytes
-returns-3 c = rw (c .before .d .given .1)
+returns-3 c = rw (c .before .before .d .given .1, c .bytes2 .ensures)
 
 returns-4 : tie.Need-returns-4
 unfolding responseOf responseBytes
@@ -57,8 +60,9 @@ response-of-spec =
     enum-told-2
     short-requires-2
     enum-known-d
-    cast-t6
-    cast-t9
+    bytes2-requires
+    array-read-t9
+    array-read-t12
     enum-told-3
     short-requires-3
     returns

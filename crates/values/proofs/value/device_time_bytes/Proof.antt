@@ -1,40 +1,60 @@
--- `device_time_bytes` lays the fields down in the order of Table 3.6.
+-- `device_time_bytes` lays the fields down in the order of Table 3.6, each number by `bytes2` or `bytes4`.
 -- Assumes nothing.
-use mathlib.Core.Path.{refl}
 use Rattle.values.specs.Value.{deviceTimeBytes}
-use Rattle.octets.proofs.NumberLaws.{last-byte}
+use borrow.Author.Needs.{needs}
 use Rattle.values.proofs.value.device_time_bytes.Statement.{statement}
 use Rattle.values.proofs.value.device_time_bytes.Tie as tie
 
-cast-t4 : tie.Need-cast-t4
-cast-t4 c = last-byte _
+bytes4-requires : tie.Need-bytes4-requires
+bytes4-requires c κs = search needs
 
-cast-t7 : tie.Need-cast-t7
-cast-t7 c = last-byte _
+bytes2-requires : tie.Need-bytes2-requires
+bytes2-requires c κs = search needs
 
-cast-t10 : tie.Need-cast-t10
-cast-t10 c = last-byte _
+bytes2-requires-2 : tie.Need-bytes2-requires-2
+bytes2-requires-2 c κs = search needs
 
-cast-t13 : tie.Need-cast-t13
-cast-t13 c = last-byte _
+array-read-t10 : tie.Need-array-read-t10
+array-read-t10 c = search needs
 
-cast-t15 : tie.Need-cast-t15
-cast-t15 c = last-byte _
+array-read-t13 : tie.Need-array-read-t13
+array-read-t13 c = search needs
 
-cast-t18 : tie.Need-cast-t18
-cast-t18 c = last-byte _
+array-read-t16 : tie.Need-array-read-t16
+array-read-t16 c = search needs
 
-cast-t20 : tie.Need-cast-t20
-cast-t20 c = last-byte _
+array-read-t19 : tie.Need-array-read-t19
+array-read-t19 c = search needs
 
-cast-t23 : tie.Need-cast-t23
-cast-t23 c = last-byte _
+array-read-t22 : tie.Need-array-read-t22
+array-read-t22 c = search needs
+
+array-read-t25 : tie.Need-array-read-t25
+array-read-t25 c = search needs
+
+array-read-t28 : tie.Need-array-read-t28
+array-read-t28 c = search needs
+
+array-read-t31 : tie.Need-array-read-t31
+array-read-t31 c = search needs
 
 returns : tie.Need-returns
 unfolding deviceTimeBytes
-returns c = refl
+returns c = rw (c .before .before .bytes4 .ensures, c .before .bytes2 .ensures, c .bytes22 .ensures)
 
 pub device-time-bytes-spec : {M : Type 1} → statement M
 device-time-bytes-spec =
     tie.close
-    (tie.spec cast-t4 cast-t7 cast-t10 cast-t13 cast-t15 cast-t18 cast-t20 cast-t23 returns)
+    (tie.spec
+    bytes4-requires
+    bytes2-requires
+    bytes2-requires-2
+    array-read-t10
+    array-read-t13
+    array-read-t16
+    array-read-t19
+    array-read-t22
+    array-read-t25
+    array-read-t28
+    array-read-t31
+    returns)
