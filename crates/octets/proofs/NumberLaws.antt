@@ -3,18 +3,11 @@
 use mathlib.Core.Path.{_≡_}
 use mathlib.Core.List.{List, [], _∷_}
 use Prim.Native.Nat.{ℕ, zero, suc, _+_, _*_, _/_, _%_, _<_}
-use native.Mathlib.Nat.{div-div-eq-div-mul, div-add-mod', mod-eq-of-lt, mod-lt}
+use native.Mathlib.Nat.{div-div-eq-div-mul, div-add-mod', mod-eq-of-lt}
 use native.Mathlib.Omega.{arith}
-use lib.Dec.{lit<}
-use mir.Syntax.{w8}
-use mir.Val.{Fits}
 use Rattle.octets.specs.Numbers.{at, le16, le32, bytes2, bytes4}
 use Rattle.octets.specs.Parts.{Bytes}
 use Rattle.octets.proofs.PartLaws.{bytes-append}
-
--- what a cast of a number's last byte asks
-pub last-byte : (n : ℕ) → Fits w8 (n % 256)
-last-byte n = record { fits = mod-lt n (lit< tt) }
 
 pub two : (n : ℕ) → n < 65536 → n % 256 + 256 * (n / 256 % 256) ≡ n
 two n h = omega arith
