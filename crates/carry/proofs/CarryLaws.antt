@@ -16,22 +16,22 @@ use mir.Syntax.{w64}
 use mir.Val.{SFits}
 use Rattle.octets.specs.Choice.{both, pick}
 use Rattle.octets.proofs.Tests.{both-reads}
-use Rattle.rules.specs.Rules.{baseB, zoneB, dstB, sourceB, statusB}
+use Rattle.rules.specs.Fields.{baseB, zoneB, dstB, sourceB, statusB}
 use Rattle.rules.proofs.RangeLaws.{base-reads}
 use Rattle.record.specs.Fields.{typeOf}
-use Rattle.coding.specs.WellFormed.{updateB, recordB}
-use Rattle.coding.proofs.RuleLaws.{update-rules}
+use Rattle.record_read.specs.Reading.{updateB, recordB}
+use Rattle.record_read.proofs.RuleLaws.{update-rules}
 use Rattle.record.specs.declared.kinds.Update.{Update}
 use Rattle.record.specs.declared.kinds.Record.{Record}
 use Rattle.record.specs.declared.kinds.Record.the-variants.{TimeUpdate, TimeFault}
 use Rattle.table.specs.Table.{count, next, held, soundB}
-use Rattle.log.specs.Writing.{newest}
+use Rattle.table_write.specs.Writing.{newest}
 use Rattle.table.proofs.HeadLaws.{sound-head}
-use Rattle.log.proofs.HistoryLaws.{length-held}
-use Rattle.held.proofs.LookLaws.{none-left}
-use Rattle.held.proofs.KindLaws.{held-rules}
-use Rattle.carry.specs.Carry.{laterOf, fits64, movedBy, carriedOver, carriedFrom, carryOf, numberOf, noFaultB}
-use Rattle.carry.specs.Promises.{Answers, NeverPastRange, Unchanged}
+use Rattle.table_write.proofs.HistoryLaws.{length-held}
+use Rattle.table_look.proofs.LookLaws.{none-left}
+use Rattle.table_look.proofs.KindLaws.{held-rules}
+use Rattle.carry.specs.Stamp.{laterOf, fits64, movedBy, carriedOver, carriedFrom, carryOf, carryingNumber, noFaultB}
+use Rattle.carry.specs.Theorems.{Answers, NeverPastRange, Unchanged}
 use Rattle.carry.specs.declared.stamp.Carried.{Carried}
 use Rattle.carry.specs.declared.stamp.Carried.the-variants.{To, TableNotSound, NotHeld, FaultAmong}
 use Rattle.carry.proofs.IntLaws.{mag-difference, mag-sum}
@@ -90,9 +90,9 @@ abbrev AllRight : List Record → Type 0
 AllRight l = (k : ℕ) (r : Record) (rest : List Record) → drop k l ≡ r ∷ rest → recordB r ≡ true
 
 -- so at most 1,023 of them never take it out of signed 64 bits
-over-answers : (l : List Record) (n : ℕ) (z : ℤ) → AllRight l → n + length l ≤ 1023 → Within n z → numberOf (carriedOver z l) ≡ pick (noFaultB l) 0 13
-unfolding carriedOver movedBy numberOf noFaultB
-over-answers [] n z right h w = ap numberOf (over-done z [] refl (omega arith))
+over-answers : (l : List Record) (n : ℕ) (z : ℤ) → AllRight l → n + length l ≤ 1023 → Within n z → carryingNumber (carriedOver z l) ≡ pick (noFaultB l) 0 13
+unfolding carriedOver movedBy carryingNumber noFaultB
+over-answers [] n z right h w = ap carryingNumber (over-done z [] refl (omega arith))
 over-answers (TimeUpdate u ∷ l) n z right h w =
     let d = moved-small (TimeUpdate u) (right 0 (TimeUpdate u) l refl) in
     over-answers l (n + 1) (z +ℤ movedBy (TimeUpdate u)) (λ k. right (suc k)) (omega arith) (one-more n z _ w d)
@@ -129,23 +129,23 @@ module _ (stamp q : ℕ) (t : List ℕ) where
       simp (sd, length-held t, le-leb _ _ m, from, e)
 
 pub answers : Answers
-unfolding numberOf
+unfolding carryingNumber
 answers stamp q t h = go (soundB t) (leb (laterOf (next t) q) (count t)) refl refl
   where
     right : (n : ℕ) → soundB t ≡ true → AllRight (drop n (held t))
     right n sd k r rest e = held-rules t (n + k) r rest sd (sym (drop-drop k n (held t)) ∙ e)
 
     go : (a b : Bool) → soundB t ≡ a → leb (laterOf (next t) q) (count t) ≡ b
-        → numberOf (carryOf stamp q t) ≡ pick a (pick b (pick (noFaultB (newest (laterOf (next t) q) (held t))) 0 13) 12) 1
-    go false b sd m = ap numberOf (carry-unsound stamp q t sd)
-    go true false sd m = ap numberOf (carry-not-held stamp q t sd (leb-false _ _ m))
+        → carryingNumber (carryOf stamp q t) ≡ pick a (pick b (pick (noFaultB (newest (laterOf (next t) q) (held t))) 0 13) 12) 1
+    go false b sd m = ap carryingNumber (carry-unsound stamp q t sd)
+    go true false sd m = ap carryingNumber (carry-not-held stamp q t sd (leb-false _ _ m))
     go true true sd m =
         let x = leb-true (laterOf (next t) q) (count t) m in
         let e = length-held t in
         let n = length (held t) - laterOf (next t) q in
         let d = sound-head t sd in
         let l : length (drop n (held t)) ≤ 1023 = omega (arith, length-drop n (held t)) in
-        ap numberOf (sym (carry-over stamp q t _ n refl sd (omega arith)))
+        ap carryingNumber (sym (carry-over stamp q t _ n refl sd (omega arith)))
         ∙ over-answers (drop n (held t)) 0 (pos stamp) (right n sd) (omega arith) (omega arith)
 
 -- none of these numbers is 14
@@ -156,10 +156,10 @@ below-14 true false d = omega arith
 below-14 false b d = omega arith
 
 pub never-past-range : NeverPastRange
-unfolding numberOf
+unfolding carryingNumber
 never-past-range stamp q t h e =
     let m = laterOf (next t) q in
-    let n = ap numberOf e in
+    let n = ap carryingNumber e in
     absurd (omega (arith, answers stamp q t h, below-14 (soundB t) (leb m (count t)) (noFaultB (newest m (held t)))))
 
 pub unchanged : Unchanged

@@ -7,15 +7,15 @@ use lib.ListN.{take}
 use lib.IntN.{pos, negsuc}
 use Rattle.octets.specs.Numbers.{bytes2}
 use Rattle.octets.specs.Parts.{zerosB, over}
-use Rattle.rules.specs.Rules.{baseB, zoneB, dstB, sourceB, statusB, bitsB}
+use Rattle.rules.specs.Fields.{baseB, zoneB, dstB, sourceB, statusB, bitsB}
 use Rattle.record.specs.Fields.{sequenceOf}
-use Rattle.layout.specs.Layout.{updateBytes, faultBytes, bytesOf, updateAt, faultAt, recordOf, sizedB, shapeB}
-use Rattle.coding.specs.WellFormed.{updateB, faultB, recordB, wellFormedB}
+use Rattle.record_write.specs.Layout.{updateBytes, faultBytes, bytesOf, updateAt, faultAt, recordOf, sizedB, shapeB}
+use Rattle.record_read.specs.Reading.{updateB, faultB, recordB, wellFormedB}
 use Rattle.record.specs.declared.kinds.Record.{Record}
 use Rattle.record.specs.declared.kinds.Record.the-variants.{TimeUpdate, TimeFault}
 use Rattle.table.specs.Table.{sizeB, startB, emptyB, fieldsB, headB, slot, bytesIn, recordIn, slots, ring, held, slotB, rowB, soundB, steps}
-use Rattle.log.specs.Writing.{fresh, placeOf, slotOf, headerAfter, appendOf, logAll}
-use Rattle.carry.specs.Carry.{laterOf, carriedOver, carriedFrom, carryOf, movedBy}
+use Rattle.table_write.specs.Writing.{fresh, placeOf, slotOf, headerAfter, appendOf, logAll}
+use Rattle.carry.specs.Stamp.{laterOf, carriedOver, carriedFrom, carryOf, movedBy}
 use Rattle.carry.specs.declared.stamp.Carried.{Carried}
 use Rattle.carry.specs.declared.stamp.Carried.the-variants.{To, TableNotSound, NotHeld, FaultAmong}
 

@@ -1,3 +1,3 @@
-pub mod Carry
+pub mod Stamp
 pub mod Cases
-pub mod Promises
+pub mod Theorems

@@ -1,10 +1,10 @@
 // Carrying a stamp (document 01, "Carrying a stamp"): it is moved as the clock was moved by each later record.
-use held::look::held_count;
-use held::look::next_number;
-use held::look::record_at;
 use record::fields::type_of;
 use record::kinds::Record;
-use soundness::sound::sound;
+use table_look::look::held_count;
+use table_look::look::next_number;
+use table_look::look::record_at;
+use table_sound::sound::sound;
 ghost use mathlib.Core.Path.{_≡_};
 ghost use mathlib.Core.Bool.{true};
 ghost use Prim.Native.Nat.{_≤_};
@@ -13,7 +13,7 @@ ghost use lib.IntN.{pos, _+ℤ_, _-ℤ_};
 ghost use mir.Syntax.{w64};
 ghost use mir.Val.{SFits};
 ghost use Rattle.table.specs.Table.{count, held, soundB};
-ghost use Rattle.carry.specs.Carry.{laterOf, movedBy, carriedOver, carryOf, numberOf};
+ghost use Rattle.carry.specs.Stamp.{laterOf, movedBy, carriedOver, carryOf, carryingNumber};
 
 // Event_Log_Type of a Time_Fault (document 002, Table 3.12)
 const TIME_FAULT: u8 = 0;
@@ -93,8 +93,8 @@ pub fn carry(stamp: u32, q: u16, t: &[u8]) -> Carried
 }
 
 // The paper's number of an answer.
-pub fn number_of(c: Carried) -> u8
-    ensures { λ n. ⌜ n ≡ numberOf c ⌝ }
+pub fn carrying_number(c: Carried) -> u8
+    ensures { λ n. ⌜ n ≡ carryingNumber c ⌝ }
 {
     match c {
         Carried::To(_) => 0,

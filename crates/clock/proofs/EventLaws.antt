@@ -6,9 +6,9 @@ use Prim.Native.Nat.{ℕ, _+_, _≤_, _<_}
 use borrow.Author.Tests.{lt-ltb, le-ltb, ltb-true, ltb-false}
 use lib.Dec.{ltb}
 use Rattle.octets.proofs.Tests.{both-yes, both-reads}
-use Rattle.rules.specs.Rules.{lastBaseTime, baseB}
+use Rattle.rules.specs.Fields.{lastBaseTime, baseB}
 use Rattle.clock.specs.State.{withSwitches, withRunning}
-use Rattle.clock.specs.Rules.{runningB, timeB, clockB}
+use Rattle.clock.specs.Obeys.{runningB, timeB, clockB}
 use Rattle.clock.specs.Events.{event, unlessBroken, secondsOf, switchesOf, disconnectOf, withBase, onOff, disconnected}
 use Rattle.clock.specs.declared.answers.Answer.the-variants.{Done, ClockBroken, PastTheEnd}
 use Rattle.clock.specs.declared.events.Event.{Event}

@@ -6,10 +6,10 @@ use Prim.Native.Nat.{ℕ, _+_}
 use native.Mathlib.Omega.{arith}
 use Rattle.clock.specs.Answers.{numberOf}
 use Rattle.clock.specs.State.{newReader}
-use Rattle.rules.specs.Rules.{baseB, zoneB, dstB, sourceB, statusB, bitsB}
-use Rattle.clock.specs.Rules.{runningB, timeB, clockB}
+use Rattle.rules.specs.Fields.{baseB, zoneB, dstB, sourceB, statusB, bitsB}
+use Rattle.clock.specs.Obeys.{runningB, timeB, clockB}
 use Rattle.clock.specs.Events.{withBase, onOff}
-use Rattle.clock.specs.Promises.{Untouched, RefusedUnchanged, Obeys, Ticks}
+use Rattle.clock.specs.Theorems.{Untouched, RefusedUnchanged, Obeys, Ticks}
 use Rattle.clock.specs.declared.events.Event.{Event}
 use Rattle.clock.specs.declared.state.Clock.{Clock}
 use Rattle.rules.proofs.RangeLaws.{base-makes}

@@ -5,9 +5,9 @@ use mathlib.Core.Bool.{true}
 use borrow.Author.Tests.{leb-true, le-leb}
 use Rattle.octets.specs.Choice.{both}
 use Rattle.octets.proofs.Tests.{both-yes, both-reads}
-use Rattle.rules.specs.Rules.{baseB, zoneB, dstB, sourceB, statusB}
+use Rattle.rules.specs.Fields.{baseB, zoneB, dstB, sourceB, statusB}
 use Rattle.rules.proofs.RangeLaws.{base-reads, base-makes}
-use Rattle.clock.specs.Rules.{opcodeB, filterB, lastCounter, counterB, reportB, runningB, timeB, clockB, TimeRules, Rules, ReportRules}
+use Rattle.clock.specs.Obeys.{opcodeB, filterB, lastCounter, counterB, reportB, runningB, timeB, clockB, TimeRules, Rules, ReportRules}
 use Rattle.clock.specs.declared.state.Clock.{Clock}
 use Rattle.clock.specs.declared.state.Report.{Report}
 use Rattle.clock.specs.declared.state.Running.the-variants.{Reporting}

@@ -4,11 +4,11 @@ use mathlib.Core.Path.{_≡_}
 use mathlib.Core.Bool.{Bool, true, false}
 use mathlib.Core.List.{List, [], _∷_, map}
 use Prim.Native.Nat.{ℕ}
-use Rattle.filter.specs.declared.request.Filter.{Filter}
-use Rattle.filter.specs.declared.request.Filter.the-variants.{All, Range}
+use Rattle.filter.specs.declared.filter.Filter.{Filter}
+use Rattle.filter.specs.declared.filter.Filter.the-variants.{All, Range}
 use Rattle.clock.specs.Answers.{numberOf}
-use Rattle.rules.specs.Rules.{baseB, zoneB, dstB, sourceB, statusB, bitsB}
-use Rattle.clock.specs.Rules.{opcodeB, filterB, counterB, reportB, runningB, timeB, clockB}
+use Rattle.rules.specs.Fields.{baseB, zoneB, dstB, sourceB, statusB, bitsB}
+use Rattle.clock.specs.Obeys.{opcodeB, filterB, counterB, reportB, runningB, timeB, clockB}
 use Rattle.clock.specs.Events.{unlessBroken, withBase, onOff, disconnected, secondsOf, switchesOf, disconnectOf}
 use Rattle.clock.specs.declared.events.Event.{Event}
 use Rattle.clock.specs.declared.state.Clock.{Clock}

@@ -3,9 +3,9 @@ use mathlib.Core.Bool.{Bool}
 use Prim.Native.Nat.{ℕ, _+_}
 use lib.Dec.{ltb}
 use Rattle.octets.specs.Choice.{pick}
-use Rattle.rules.specs.Rules.{lastBaseTime}
+use Rattle.rules.specs.Fields.{lastBaseTime}
 use Rattle.clock.specs.State.{withTime, withSwitches, allOff}
-use Rattle.clock.specs.Rules.{clockB}
+use Rattle.clock.specs.Obeys.{clockB}
 use Rattle.clock.specs.declared.answers.Answer.{Answer}
 use Rattle.clock.specs.declared.answers.Answer.the-variants.{Done, ClockBroken, PastTheEnd}
 use Rattle.clock.specs.declared.events.Event.{Event}

@@ -1,6 +1,6 @@
 pub mod Answers
 pub mod State
-pub mod Rules
+pub mod Obeys
 pub mod Events
-pub mod Promises
+pub mod Theorems
 pub mod Cases

@@ -1,7 +1,7 @@
 -- The clock state's values with a name, the clock of a new reader, and a clock with one part changed (document 01, "Clock state").
 use mathlib.Core.Bool.{false}
 use Prim.Native.Nat.{ℕ}
-use Rattle.rules.specs.Rules.{firstBaseTime}
+use Rattle.rules.specs.Fields.{firstBaseTime}
 use Rattle.clock.specs.declared.state.Clock.{Clock}
 use Rattle.clock.specs.declared.state.Running.{Running}
 use Rattle.clock.specs.declared.state.Running.the-variants.{Idle}

@@ -3,5 +3,5 @@
 pub mod answers;
 pub mod events;
 pub mod obeys;
-pub mod promises;
 pub mod state;
+pub mod theorems;

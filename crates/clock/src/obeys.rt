@@ -6,7 +6,7 @@ use crate::state::Running;
 use crate::state::Time;
 use codes::racp::COMBINED_OPCODE;
 use codes::racp::REPORT_OPCODE;
-use filter::request::Filter;
+use filter::filter::Filter;
 use octets::choice::both;
 use rules::fields::base_ok;
 use rules::fields::dst_ok;
@@ -14,7 +14,7 @@ use rules::fields::source_ok;
 use rules::fields::status_ok;
 use rules::fields::zone_ok;
 ghost use mathlib.Core.Path.{_≡_};
-ghost use Rattle.clock.specs.Rules.{opcodeB, filterB, reportB, runningB, timeB, clockB};
+ghost use Rattle.clock.specs.Obeys.{opcodeB, filterB, reportB, runningB, timeB, clockB};
 
 // The last value of a notification's counter.
 pub const LAST_COUNTER: u8 = 63;

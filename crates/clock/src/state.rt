@@ -1,6 +1,6 @@
 // The clock state (document 01, "Clock state"), by value. Any value of these types is a clock; whether it
 // obeys the paper's rules is `obeys::clock_ok`.
-use filter::request::Filter;
+use filter::filter::Filter;
 use rules::fields::FIRST_BASE_TIME;
 ghost use mathlib.Core.Path.{_≡_};
 ghost use Rattle.clock.specs.State.{withRunning, newTime, allOff, newReader};

@@ -8,13 +8,13 @@ use native.Mathlib.Omega.{arith}
 use lib.ListN.{length, take, drop, getD, length-take, drop-of-length-le}
 use lib.Seq.{drop-cons, take-append-add, take-at, length-take-le}
 use Rattle.octets.specs.Parts.{over}
-use Rattle.lines.specs.Text.{textOf}
-use Rattle.lines.specs.declared.text.Line.{Line}
-use Rattle.sheet.specs.Sheet.{tagLine, titleLine}
-use Rattle.sheet.specs.declared.text.Sight.{Sight}
-use Rattle.evening.specs.Fetch.{fetchedOf, sightOf}
-use Rattle.day.specs.declared.play.Ramp.{Ramp}
-use Rattle.day.specs.declared.reader.Note.{Note}
+use Rattle.text.specs.Line.{textOf}
+use Rattle.text.specs.declared.line.Line.{Line}
+use Rattle.day_sheet.specs.Sheet.{tagLine, titleLine}
+use Rattle.day_sheet.specs.declared.sheet.Sight.{Sight}
+use Rattle.day_evening.specs.Fetch.{fetchedOf, sightOf}
+use Rattle.day_play.specs.declared.play.Ramp.{Ramp}
+use Rattle.day_play.specs.declared.reader.Note.{Note}
 use Rattle.loading_day.specs.Page.{linesOf, eveningOf}
 
 -- as many bytes as a part has are that part

@@ -6,9 +6,9 @@ use Rattle.octets.specs.Choice.{both}
 use Rattle.octets.specs.Parts.{sameB}
 use Rattle.octets.proofs.Tests.{both-reads}
 use Rattle.octets.proofs.SameLaws.{same-reads}
-use Rattle.day.specs.Play.{openedOf, playedOf}
-use Rattle.day.specs.declared.play.Ramp.{Ramp}
-use Rattle.evening.specs.Fetch.{fetchedOf}
+use Rattle.day_play.specs.Play.{openedOf, playedOf}
+use Rattle.day_play.specs.declared.play.Ramp.{Ramp}
+use Rattle.day_evening.specs.Fetch.{fetchedOf}
 use Rattle.loading_day.specs.Story.{theDay, theTags}
 use Rattle.loading_day.specs.Page.{eveningOf, sheetOf}
 use Rattle.loading_day.specs.Printed.{theSheet, joinedLines, printed, Printed}

@@ -6,7 +6,7 @@ use Prim.Native.Nat.{ℕ, _+_, _<_, _≤_}
 use native.Mathlib.Numerals.{add-one}
 use lib.ListN.{length, take, drop, getD, set, drop-of-length-le}
 use lib.Seq.{take-all, take-suc-set, drop-cons, append-snoc}
-use Rattle.day.specs.declared.play.Happening.{Happening}
+use Rattle.day_play.specs.declared.play.Happening.{Happening}
 use Rattle.loading_day.specs.Written.{happeningOf, happeningsOf}
 
 module _ (day : List Happening) (ws : List ℕ) (k : ℕ) where

@@ -2,12 +2,12 @@
 use mathlib.Core.List.{List, [], _∷_, _++_}
 use Prim.Native.Nat.{ℕ}
 use lib.ListN.{take}
-use Rattle.sheet.specs.Sheet.{tagLine, titleLine}
-use Rattle.day.specs.Play.{openedOf, playedOf}
-use Rattle.evening.specs.Fetch.{fetchedOf, sightOf}
-use Rattle.day.specs.declared.play.Happening.{Happening}
-use Rattle.day.specs.declared.play.Ramp.{Ramp}
-use Rattle.day.specs.declared.reader.Note.{Note}
+use Rattle.day_sheet.specs.Sheet.{tagLine, titleLine}
+use Rattle.day_play.specs.Play.{openedOf, playedOf}
+use Rattle.day_evening.specs.Fetch.{fetchedOf, sightOf}
+use Rattle.day_play.specs.declared.play.Happening.{Happening}
+use Rattle.day_play.specs.declared.play.Ramp.{Ramp}
+use Rattle.day_play.specs.declared.reader.Note.{Note}
 use Rattle.loading_day.specs.declared.page.Page.{Page}
 
 -- the bytes of a page that count

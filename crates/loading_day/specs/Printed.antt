@@ -4,61 +4,61 @@ use mathlib.Core.Path.{_≡_}
 use mathlib.Core.List.{List, [], _∷_, _++_}
 use Prim.Native.Nat.{ℕ}
 use Rattle.octets.specs.Parts.{zerosB, over}
-use Rattle.rules.specs.Rules.{baseB, zoneB, dstB, sourceB, statusB, bitsB}
+use Rattle.rules.specs.Fields.{baseB, zoneB, dstB, sourceB, statusB, bitsB}
 use Rattle.filter.specs.Filter.{matchesB}
-use Rattle.lines.specs.Text.{digitsUpTo, decimal}
+use Rattle.text.specs.Line.{digitsUpTo, decimal}
 use Rattle.record.specs.Fields.{sequenceOf}
-use Rattle.layout.specs.Layout.{updateBytes, faultBytes, bytesOf, updateAt, faultAt, recordOf, sizedB, shapeB}
-use Rattle.coding.specs.WellFormed.{updateB, faultB, recordB, wellFormedB, readOf}
+use Rattle.record_write.specs.Layout.{updateBytes, faultBytes, bytesOf, updateAt, faultAt, recordOf, sizedB, shapeB}
+use Rattle.record_read.specs.Reading.{updateB, faultB, recordB, wellFormedB, readOf}
 use Rattle.table.specs.Table.{sizeB, startB, emptyB, fieldsB, headB, slot, bytesIn, recordIn, slots, ring, held, slotB, rowB, soundB, steps}
-use Rattle.log.specs.Writing.{fresh, startOf, placeOf, slotOf, headerAfter, appendOf}
-use Rattle.held.specs.Matching.{firstFrom, nextMatch, matchingFrom, matching}
+use Rattle.table_write.specs.Writing.{fresh, startOf, placeOf, slotOf, headerAfter, appendOf}
+use Rattle.table_look.specs.Matching.{firstFrom, nextMatch, matchingFrom, matching}
 use Rattle.clock.specs.Answers.{numberOf}
 use Rattle.clock.specs.Events.{unlessBroken, withBase, disconnected, secondsOf, switchesOf, disconnectOf}
-use Rattle.clock.specs.Rules.{opcodeB, filterB, counterB, reportB, clockB, timeB}
-use Rattle.clock.specs.Rules as clocks
+use Rattle.clock.specs.Obeys.{opcodeB, filterB, counterB, reportB, clockB, timeB}
+use Rattle.clock.specs.Obeys as clocks
 use Rattle.clock.specs.State.{newReader}
-use Rattle.update.specs.Accept.{statusAfter, alignedAfter, accuracyOf, acceptedOf, loggedB, updateRecord}
-use Rattle.update.specs.Decide.{judged, operandOf, decideOf}
-use Rattle.judging.specs.Grades.{clockGrade, localB, gradeOf}
-use Rattle.judging.specs.Grounds.{epochB, rangeB, lowerB, secondsApart, unrealisticB, flagIf, groundsOf}
-use Rattle.judging.specs.Proposal.{proposalAt}
-use Rattle.update.specs.Response.{responseBytes}
-use Rattle.service.specs.Fault.{countAfter, faultRecord, faultedOf, endingOf, faultOf}
-use Rattle.refusals.specs.Outcome.{doneB, answered}
-use Rattle.refusals.specs.Rows.{firstFailed, leftB, wholeB, tableRows, writeRows}
-use Rattle.refusals.specs.Rows as rows
-use Rattle.service.specs.Start.{newReaderOf}
-use Rattle.service.specs.Update.{updateRows, tableAfter, settledOf, effectOf, updateOf}
+use Rattle.update_decide.specs.Accept.{statusAfter, alignedAfter, accuracyOf, acceptedOf, loggedB, updateRecord}
+use Rattle.update_decide.specs.Decide.{judged, operandOf, decideOf}
+use Rattle.update_judge.specs.Grades.{clockGrade, localB, gradeOf}
+use Rattle.update_judge.specs.Grounds.{epochB, rangeB, lowerB, secondsApart, unrealisticB, flagIf, groundsOf}
+use Rattle.update_judge.specs.Proposal.{proposalAt}
+use Rattle.update_decide.specs.Response.{responseBytes}
+use Rattle.update.specs.Fault.{countAfter, faultRecord, faultedOf, endingOf, faultOf}
+use Rattle.rows.specs.Outcome.{doneB, answered}
+use Rattle.rows.specs.Rows.{firstFailed, leftB, wholeB, tableRows, writeRows}
+use Rattle.rows.specs.Rows as rows
+use Rattle.update.specs.Start.{newReaderOf}
+use Rattle.update.specs.TimeUpdate.{updateRows, tableAfter, afterDecision, effectOf, updateOf}
 use Rattle.codes.specs.Response.{codeOf, codeBytes, countBytes}
-use Rattle.access.specs.Request.{operandBytes, typedB, filterAt, askedOf, abortOf, requestOf}
-use Rattle.access.specs.Request as requests
-use Rattle.asking.specs.Report.{numberIn, leftAt, leftFrom}
-use Rattle.asking.specs.Report as reports
-use Rattle.asking.specs.Access.{accessRows, accessed, begunOf, abortedOf, accessedOf, accessOf}
-use Rattle.transfer.specs.Notify.{roomB, notifyRows, headerOf, segmentOf, leftAfter, closingOf, saidOf, noticed, runningNotice, notifyOf}
-use Rattle.tablet.specs.Joining.{emptyJoining, rangesB, filledB, placedB, followsB, standing, takesB, ground, takenOf, joinOf}
-use Rattle.tablet.specs.Reading.{readJoinedOf}
-use Rattle.carry.specs.Carry.{laterOf, movedBy, carriedOver, carriedFrom, carryOf}
-use Rattle.carry.specs.Carry as carries
-use Rattle.sheet.specs.Sheet.{twoDigits, timeOfDay, notedOf, signedOf, outcomeOf, carriedOf, shownText, gap, apartText, pairText, tagLine}
-use Rattle.day.specs.Reader.{proposalBytes, startedOf, withClock, setOf, failedOf, livedOf}
-use Rattle.day.specs.Reader as readers
-use Rattle.day.specs.Play.{openedOf, steppedOf, playedOf}
-use Rattle.evening.specs.Fetch.{loggedIn, keptIn, heardOf, heardAll, finishedOf, reportOf, fetchedOf, sightOf}
-use Rattle.evening.specs.Fetch as evenings
-use Rattle.day.specs.declared.play.Ramp.{Ramp}
+use Rattle.racp_request.specs.Request.{operandBytes, typedB, filterAt, askedOf, abortOf, requestOf}
+use Rattle.racp_request.specs.Request as requests
+use Rattle.racp_access.specs.Report.{firstNumber, leftAt, leftFrom}
+use Rattle.racp_access.specs.Report as reports
+use Rattle.racp_access.specs.Access.{accessRows, accessed, begunOf, abortedOf, accessedOf, accessOf}
+use Rattle.racp_notify.specs.Notify.{roomB, notifyRows, headerOf, segmentOf, leftAfter, closingOf, saidOf, noticed, runningNotice, notifyOf}
+use Rattle.joining.specs.Joining.{emptyJoining, rangesB, filledB, placedB, followsB, standing, takesB, ground, takenOf, joinOf}
+use Rattle.joining.specs.Reading.{readJoinedOf}
+use Rattle.carry.specs.Stamp.{laterOf, movedBy, carriedOver, carriedFrom, carryOf}
+use Rattle.carry.specs.Stamp as carries
+use Rattle.day_sheet.specs.Sheet.{twoDigits, timeOfDay, notedOf, signedOf, outcomeOf, carriedOf, shownText, gap, apartText, pairText, tagLine}
+use Rattle.day_play.specs.Reader.{proposalBytes, startedOf, withClock, setOf, failedOf, livedOf}
+use Rattle.day_play.specs.Reader as readers
+use Rattle.day_play.specs.Play.{openedOf, steppedOf, playedOf}
+use Rattle.day_evening.specs.Fetch.{loggedIn, keptIn, heardOf, heardAll, finishedOf, reportOf, fetchedOf, sightOf}
+use Rattle.day_evening.specs.Fetch as evenings
+use Rattle.day_play.specs.declared.play.Ramp.{Ramp}
 use Rattle.loading_day.specs.Story.{theDay, theTags}
 use Rattle.loading_day.specs.Page.{linesOf, eveningOf, sheetOf}
 
 -- the ramp in the evening
 unfoldable pub theRamp : Ramp
-unfolding playedOf theDay openedOf steppedOf livedOf startedOf proposalBytes withClock setOf failedOf readers.readOf newReaderOf startOf fresh newReader secondsOf withBase switchesOf disconnectOf disconnected unlessBroken faultOf faultedOf faultRecord countAfter endingOf updateOf updateRows firstFailed tableRows writeRows wholeB rows.runningB leftB doneB numberOf clockB timeB clocks.runningB reportB opcodeB filterB counterB baseB zoneB dstB sourceB statusB bitsB soundB headB sizeB startB emptyB fieldsB zerosB slot bytesIn recordIn slots ring held slotB rowB wellFormedB shapeB sizedB recordB updateB faultB recordOf updateAt faultAt sequenceOf matchesB decideOf operandOf judged proposalAt groundsOf flagIf epochB rangeB lowerB unrealisticB secondsApart gradeOf localB clockGrade effectOf settledOf acceptedOf statusAfter alignedAfter accuracyOf tableAfter loggedB updateRecord appendOf steps placeOf slotOf headerAfter bytesOf updateBytes faultBytes responseBytes answered over
+unfolding playedOf theDay openedOf steppedOf livedOf startedOf proposalBytes withClock setOf failedOf readers.readOf newReaderOf startOf fresh newReader secondsOf withBase switchesOf disconnectOf disconnected unlessBroken faultOf faultedOf faultRecord countAfter endingOf updateOf updateRows firstFailed tableRows writeRows wholeB rows.runningB leftB doneB numberOf clockB timeB clocks.runningB reportB opcodeB filterB counterB baseB zoneB dstB sourceB statusB bitsB soundB headB sizeB startB emptyB fieldsB zerosB slot bytesIn recordIn slots ring held slotB rowB wellFormedB shapeB sizedB recordB updateB faultB recordOf updateAt faultAt sequenceOf matchesB decideOf operandOf judged proposalAt groundsOf flagIf epochB rangeB lowerB unrealisticB secondsApart gradeOf localB clockGrade effectOf afterDecision acceptedOf statusAfter alignedAfter accuracyOf tableAfter loggedB updateRecord appendOf steps placeOf slotOf headerAfter bytesOf updateBytes faultBytes responseBytes answered over
 theRamp = playedOf openedOf theDay
 
 -- the text of its sheet
 unfoldable pub theSheet : List ℕ
-unfolding theRamp sheetOf eveningOf linesOf theTags fetchedOf finishedOf reportOf heardAll heardOf keptIn loggedIn sightOf evenings.askedOf accessOf accessRows accessed begunOf abortedOf accessedOf requestOf askedOf abortOf requests.operandOf operandBytes typedB filterAt codeOf codeBytes countBytes numberIn leftAt leftFrom firstFrom nextMatch matchingFrom matching notifyOf notifyRows roomB headerOf segmentOf leftAfter closingOf saidOf noticed runningNotice reports.bytesIn emptyJoining rangesB filledB placedB followsB standing takesB ground takenOf joinOf readJoinedOf readOf carryOf carriedFrom carriedOver movedBy laterOf carries.numberOf tagLine pairText apartText gap shownText carriedOf outcomeOf signedOf notedOf timeOfDay twoDigits decimal digitsUpTo
+unfolding theRamp sheetOf eveningOf linesOf theTags fetchedOf finishedOf reportOf heardAll heardOf keptIn loggedIn sightOf evenings.askedOf accessOf accessRows accessed begunOf abortedOf accessedOf requestOf askedOf abortOf requests.operandOf operandBytes typedB filterAt codeOf codeBytes countBytes firstNumber leftAt leftFrom firstFrom nextMatch matchingFrom matching notifyOf notifyRows roomB headerOf segmentOf leftAfter closingOf saidOf noticed runningNotice reports.firstBytes emptyJoining rangesB filledB placedB followsB standing takesB ground takenOf joinOf readJoinedOf readOf carryOf carriedFrom carriedOver movedBy laterOf carries.carryingNumber tagLine pairText apartText gap shownText carriedOf outcomeOf signedOf notedOf timeOfDay twoDigits decimal digitsUpTo
 theSheet = eveningOf theTags theRamp
 
 -- a text's lines in a row

@@ -1,11 +1,11 @@
 -- An ordinary loading day on a ramp of two antennas, as data: at which reader, what happens. Times are Base_Time of 2026-10-05.
 use mathlib.Core.List.{List, [], _∷_}
 use Prim.Native.Nat.{ℕ}
-use Rattle.day.specs.declared.play.Antenna.{Antenna}
-use Rattle.day.specs.declared.play.Antenna.the-variants.{Left, Right, Both}
-use Rattle.day.specs.declared.play.Happening.{Happening}
-use Rattle.day.specs.declared.reader.Event.{Event}
-use Rattle.day.specs.declared.reader.Event.the-variants.{Seconds, Connect, Disconnect, Propose, Fault, Read}
+use Rattle.day_play.specs.declared.play.Antenna.{Antenna}
+use Rattle.day_play.specs.declared.play.Antenna.the-variants.{Left, Right, Both}
+use Rattle.day_play.specs.declared.play.Happening.{Happening}
+use Rattle.day_play.specs.declared.reader.Event.{Event}
+use Rattle.day_play.specs.declared.reader.Event.the-variants.{Seconds, Connect, Disconnect, Propose, Fault, Read}
 
 abbrev pub at : Antenna → Event → Happening
 at a e = record { at = a; event = e }

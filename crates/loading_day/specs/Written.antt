@@ -3,11 +3,11 @@ use mathlib.Core.List.{List, map}
 use Prim.Native.Nat.{ℕ, _/_, _%_}
 use lib.Dec.{eqb}
 use Rattle.octets.specs.Choice.{pick}
-use Rattle.day.specs.declared.play.Antenna.{Antenna}
-use Rattle.day.specs.declared.play.Antenna.the-variants.{Left, Right, Both}
-use Rattle.day.specs.declared.play.Happening.{Happening}
-use Rattle.day.specs.declared.reader.Event.{Event}
-use Rattle.day.specs.declared.reader.Event.the-variants.{Seconds, Connect, Disconnect, Propose, Fault, Read}
+use Rattle.day_play.specs.declared.play.Antenna.{Antenna}
+use Rattle.day_play.specs.declared.play.Antenna.the-variants.{Left, Right, Both}
+use Rattle.day_play.specs.declared.play.Happening.{Happening}
+use Rattle.day_play.specs.declared.reader.Event.{Event}
+use Rattle.day_play.specs.declared.reader.Event.the-variants.{Seconds, Connect, Disconnect, Propose, Fault, Read}
 
 unfoldable pub antennaOf : ℕ → Antenna
 antennaOf place = pick (eqb place 1) Left (pick (eqb place 2) Right Both)

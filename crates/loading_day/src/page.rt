@@ -1,20 +1,20 @@
 // The page that is printed: the title and a line for each tag.
-use day::play::Happening;
-use day::play::Ramp;
-use day::play::played;
-use day::reader::Note;
-use evening::fetch::fetched;
-use evening::fetch::sight;
-use lines::text::Line;
+use day_evening::fetch::fetched;
+use day_evening::fetch::sight;
+use day_play::play::Happening;
+use day_play::play::Ramp;
+use day_play::play::played;
+use day_play::reader::Note;
+use day_sheet::sheet::tag_line;
+use day_sheet::sheet::title_line;
 use octets::parts::put;
-use sheet::text::tag_line;
-use sheet::text::title_line;
+use text::line::Line;
 ghost use mathlib.Core.Path.{_≡_};
 ghost use mathlib.Core.List.{[], _++_};
 ghost use Prim.Native.Nat.{_+_, _≤_};
 ghost use lib.ListN.{length};
-ghost use Rattle.lines.specs.Text.{textOf};
-ghost use Rattle.sheet.specs.Sheet.{titleLine};
+ghost use Rattle.text.specs.Line.{textOf};
+ghost use Rattle.day_sheet.specs.Sheet.{titleLine};
 ghost use Rattle.loading_day.specs.Page.{pageText, linesOf, eveningOf, sheetOf};
 
 // Nine lines of at most 96 bytes; its first `len` bytes count.

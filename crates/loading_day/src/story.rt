@@ -11,7 +11,7 @@ use crate::written::READ;
 use crate::written::RIGHT;
 use crate::written::SECONDS;
 use crate::written::happening;
-use day::play::Happening;
+use day_play::play::Happening;
 ghost use mathlib.Core.Path.{_≡_};
 ghost use Rattle.loading_day.specs.Story.{theDay, theTags};
 ghost use Rattle.loading_day.specs.Printed.{Printed};

@@ -1,8 +1,8 @@
 // A happening written as one number, `LEFT + READ + 3`: an antenna, an event and the event's own number, added up.
 // A day is then one row of numbers and proved as one step; in a row of structs each part of each struct is a step.
-use day::play::Antenna;
-use day::play::Happening;
-use day::reader::Event;
+use day_play::play::Antenna;
+use day_play::play::Happening;
+use day_play::reader::Event;
 ghost use mathlib.Core.Path.{_≡_};
 ghost use Rattle.loading_day.specs.Written.{antennaOf, eventOf, happeningOf};
 

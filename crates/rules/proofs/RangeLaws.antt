@@ -7,7 +7,7 @@ use native.Mathlib.Omega.{arith}
 use borrow.Author.Tests.{leb-true, le-leb, eqb-true}
 use lib.Dec.{leb, eqb}
 use Rattle.octets.proofs.Tests.{both-reads}
-use Rattle.rules.specs.Rules.{firstBaseTime, lastBaseTime, baseB, statusB}
+use Rattle.rules.specs.Fields.{firstBaseTime, lastBaseTime, baseB, statusB}
 
 pub base-reads : (b : ℕ) → baseB b ≡ true → (firstBaseTime ≤ b) × (b ≤ lastBaseTime)
 unfolding baseB

@@ -9,18 +9,18 @@ use lib.IntN.{ℤ}
 use lib.ListN.{length}
 use Rattle.clock.specs.Answers.{numberOf}
 use Rattle.clock.specs.Events.{event}
-use Rattle.clock.specs.Rules.{clockB}
+use Rattle.clock.specs.Obeys.{clockB}
 use Rattle.clock.specs.declared.answers.Answer.{Answer}
 use Rattle.clock.specs.declared.answers.Answer.the-variants.{ClockBroken}
 use Rattle.clock.specs.declared.events.Event.{Event}
 use Rattle.clock.specs.declared.state.Clock.{Clock}
-use Rattle.refusals.specs.Outcome.{Outcome, outcome, doneB}
-use Rattle.refusals.specs.declared.reply.Reply.{Reply}
-use Rattle.refusals.proofs.ReplyLaws.{Replies, obeyed, broken-refused}
-use Rattle.transfer.specs.Notify.{Notice, notice}
-use Rattle.transfer.specs.declared.notify.Notified.{Notified}
-use Rattle.image.specs.State.{stateBytes, clockOf}
-use Rattle.image.proofs.StateLaws.{obeys-size}
+use Rattle.rows.specs.Outcome.{Outcome, outcome, doneB}
+use Rattle.rows.specs.declared.reply.Reply.{Reply}
+use Rattle.rows.proofs.ReplyLaws.{Replies, obeyed, broken-refused}
+use Rattle.racp_notify.specs.Notify.{Notice, notice}
+use Rattle.racp_notify.specs.declared.notify.Notified.{Notified}
+use Rattle.state_bytes.specs.State.{stateBytes, clockOf}
+use Rattle.state_bytes.proofs.StateLaws.{obeys-size}
 use Rattle.server_bytes.specs.Results.{writtenOf, replyOf, Ran, ran, settledOf}
 use Rattle.server_bytes.specs.Events.{eventful}
 use Rattle.server_bytes.specs.Calls.{called, replied, notified}

@@ -12,10 +12,10 @@ use mir.Facts.{toZ-pos}
 use Rattle.clock.specs.Answers.{numberOf}
 use Rattle.clock.specs.declared.answers.Answer.{Answer}
 use Rattle.clock.specs.declared.state.Clock.{Clock}
-use Rattle.refusals.specs.Outcome.{doneB}
+use Rattle.rows.specs.Outcome.{doneB}
 use Rattle.carry.proofs.IntLaws.{mag-difference}
-use Rattle.image.specs.State.{imageOf}
-use Rattle.image.specs.Results.{refusal}
+use Rattle.state_bytes.specs.State.{imageOf}
+use Rattle.state_bytes.specs.Results.{refusal}
 use Rattle.server_bytes.specs.Results.{resultOf, stateAfter, ran, settledOf}
 
 -- the machine's 0 minus a small number

@@ -9,11 +9,11 @@ use lib.IntN.{ℤ}
 use lib.ListN.{length}
 use Rattle.table.specs.Table.{sizeB}
 use Rattle.clock.specs.declared.events.Event.{Event}
-use Rattle.service.specs.Start.{begun, newReaderOf}
-use Rattle.image.specs.State.{stateBytes}
-use Rattle.image.specs.Results.{refusal}
+use Rattle.update.specs.Start.{begun, newReaderOf}
+use Rattle.state_bytes.specs.State.{stateBytes}
+use Rattle.state_bytes.specs.Results.{refusal}
 use Rattle.server_bytes.specs.Results.{Ran, ran, settledOf}
-use Rattle.server_bytes.specs.Start.{started, shortOf, begunAt, startAt}
+use Rattle.server_bytes.specs.Start.{startedBytes, shortOf, begunAt, startAt}
 
 pub short-2 : (n : ℕ) → sizeB n ≡ true → shortOf n ≡ refusal 2
 unfolding shortOf
@@ -24,7 +24,7 @@ unfolding shortOf
 short-1 n h = rw h
 
 module _ (s t : List ℕ) where
-  pub start-short : (length s ≡ stateBytes → ⊥) → {z : ℤ} → z ≡ shortOf (length t) → started z s t ≡ startAt s t
+  pub start-short : (length s ≡ stateBytes → ⊥) → {z : ℤ} → z ≡ shortOf (length t) → startedBytes z s t ≡ startAt s t
   unfolding startAt
   start-short h e = rw (ne-eqb (length s) stateBytes h, e)
 
@@ -32,8 +32,8 @@ module _ (s t : List ℕ) where
       → y ≡ z
       → begun e t' ≡ newReaderOf t
       → ran z s' ≡ settledOf s (e .answer) (e .clock) 0
-      → started y s' t' ≡ startAt s t
+      → startedBytes y s' t' ≡ startAt s t
   unfolding startAt settledOf
   start-settled h {z} {y} {s'} {t'} q b w =
       rw (eq-eqb (length s) stateBytes h)
-      (ap (λ (x : ℤ). started x s' t') q ∙ ap (λ (k : Ran). started (k .result) (k .state) t') w ∙ ap (begunAt s) b)
+      (ap (λ (x : ℤ). startedBytes x s' t') q ∙ ap (λ (k : Ran). startedBytes (k .result) (k .state) t') w ∙ ap (begunAt s) b)

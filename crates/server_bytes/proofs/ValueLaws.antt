@@ -5,10 +5,10 @@ use mathlib.Core.List.{List}
 use Prim.Native.Nat.{ℕ, _≤_}
 use native.Mathlib.Omega.{arith}
 use lib.IntN.{ℤ}
-use Rattle.refusals.specs.Outcome.{Outcome, outcome}
-use Rattle.refusals.specs.declared.reply.Reply.{Reply}
-use Rattle.values.specs.Value.{Told, told}
-use Rattle.values.specs.declared.value.Value.{Value}
+use Rattle.rows.specs.Outcome.{Outcome, outcome}
+use Rattle.rows.specs.declared.reply.Reply.{Reply}
+use Rattle.characteristics.specs.Value.{Told, told}
+use Rattle.characteristics.specs.declared.value.Value.{Value}
 use Rattle.server_bytes.specs.Results.{resultOf}
 use Rattle.server_bytes.specs.ValuesRead.{shown, answered, telling}
 

@@ -2,12 +2,12 @@
 use mathlib.Core.List.{List}
 use Prim.Native.Nat.{ℕ}
 use lib.IntN.{ℤ}
-use Rattle.refusals.specs.Outcome.{Outcome}
-use Rattle.service.specs.Fault.{faultOf}
-use Rattle.service.specs.Update.{updateOf}
-use Rattle.asking.specs.Access.{accessOf}
-use Rattle.transfer.specs.Notify.{Notice, notifyOf}
-use Rattle.image.specs.State.{clockOf}
+use Rattle.rows.specs.Outcome.{Outcome}
+use Rattle.update.specs.Fault.{faultOf}
+use Rattle.update.specs.TimeUpdate.{updateOf}
+use Rattle.racp_access.specs.Access.{accessOf}
+use Rattle.racp_notify.specs.Notify.{Notice, notifyOf}
+use Rattle.state_bytes.specs.State.{clockOf}
 use Rattle.server_bytes.specs.Results.{resultOf, stateAfter, writtenOf}
 
 -- the whole outcome: the result, and the bytes of state, table and output after it

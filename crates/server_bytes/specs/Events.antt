@@ -5,7 +5,7 @@ use Prim.Native.Nat.{ℕ}
 use lib.Dec.{ltb}
 use Rattle.clock.specs.Events.{secondsOf, switchesOf, disconnectOf}
 use Rattle.clock.specs.declared.events.Event.{Event}
-use Rattle.image.specs.State.{clockOf}
+use Rattle.state_bytes.specs.State.{clockOf}
 use Rattle.server_bytes.specs.Results.{Ran, settledOf}
 
 -- what an event does to the state; no bytes are written besides

@@ -7,11 +7,11 @@ use Rattle.octets.specs.Choice.{pick}
 use Rattle.clock.specs.Answers.{numberOf}
 use Rattle.clock.specs.declared.answers.Answer.{Answer}
 use Rattle.clock.specs.declared.state.Clock.{Clock}
-use Rattle.refusals.specs.Outcome.{doneB, reply}
-use Rattle.refusals.specs.declared.reply.Reply.{Reply}
-use Rattle.transfer.specs.declared.notify.Notified.{Notified}
-use Rattle.image.specs.Results.{refusal}
-use Rattle.image.specs.State.{imageOf}
+use Rattle.rows.specs.Outcome.{doneB, reply}
+use Rattle.rows.specs.declared.reply.Reply.{Reply}
+use Rattle.racp_notify.specs.declared.notify.Notified.{Notified}
+use Rattle.state_bytes.specs.Results.{refusal}
+use Rattle.state_bytes.specs.State.{imageOf}
 
 -- the answer of a call that wrote n bytes, or refused
 unfoldable pub resultOf : Answer → ℕ → ℤ

@@ -7,9 +7,9 @@ use lib.IntN.{ℤ}
 use lib.ListN.{length}
 use Rattle.octets.specs.Choice.{pick}
 use Rattle.table.specs.Table.{sizeB}
-use Rattle.service.specs.Start.{Begun, newReaderOf}
-use Rattle.image.specs.State.{stateBytes}
-use Rattle.image.specs.Results.{refusal}
+use Rattle.update.specs.Start.{Begun, newReaderOf}
+use Rattle.state_bytes.specs.State.{stateBytes}
+use Rattle.state_bytes.specs.Results.{refusal}
 use Rattle.server_bytes.specs.Results.{resultOf, stateAfter}
 
 -- the result, and the bytes of state and table after it
@@ -18,8 +18,8 @@ pub record StartedBytes : Type 0 where
   pub state : List ℕ
   pub table : List ℕ
 
-abbrev pub started : ℤ → List ℕ → List ℕ → StartedBytes
-started z s t = record { result = z; state = s; table = t }
+abbrev pub startedBytes : ℤ → List ℕ → List ℕ → StartedBytes
+startedBytes z s t = record { result = z; state = s; table = t }
 
 -- a state of another length, beside a buffer of so many bytes for the table
 unfoldable pub shortOf : ℕ → ℤ
@@ -27,7 +27,7 @@ shortOf n = refusal (pick (sizeB n) 2 1)
 
 abbrev pub begunAt : List ℕ → Begun → StartedBytes
 begunAt s b =
-    started (resultOf (b .event .answer) 0) (stateAfter s (b .event .answer) (b .event .clock)) (b .table)
+    startedBytes (resultOf (b .event .answer) 0) (stateAfter s (b .event .answer) (b .event .clock)) (b .table)
 
 unfoldable pub startAt : List ℕ → List ℕ → StartedBytes
-startAt s t = pick (eqb (length s) stateBytes) (begunAt s (newReaderOf t)) (started (shortOf (length t)) s t)
+startAt s t = pick (eqb (length s) stateBytes) (begunAt s (newReaderOf t)) (startedBytes (shortOf (length t)) s t)

@@ -2,9 +2,9 @@
 use mathlib.Core.List.{List}
 use Prim.Native.Nat.{ℕ}
 use lib.IntN.{ℤ}
-use Rattle.refusals.specs.Outcome.{Outcome}
-use Rattle.values.specs.Value.{Told, deviceTimeOf, featureOf, parametersOf}
-use Rattle.image.specs.State.{clockOf}
+use Rattle.rows.specs.Outcome.{Outcome}
+use Rattle.characteristics.specs.Value.{Told, deviceTimeOf, featureOf, parametersOf}
+use Rattle.state_bytes.specs.State.{clockOf}
 use Rattle.server_bytes.specs.Results.{resultOf}
 
 -- the result, and the output after it; state and table are only read

@@ -1,11 +1,11 @@
 // The calls that take the log table. A state that is no image is a clock that breaks a rule: 2, after 1.
 use crate::results::reply_of;
 use crate::results::settle;
-use asking::record_access::record_access;
-use image::state::clock_of;
-use service::fault::fault;
-use service::time_update::time_update;
-use transfer::notify::notify;
+use racp_access::access::record_access;
+use racp_notify::notify::notify;
+use state_bytes::state::clock_of;
+use update::fault::fault;
+use update::time_update::time_update;
 ghost use mathlib.Core.Path.{_≡_};
 ghost use Rattle.server_bytes.specs.Calls.{called, faultAt, dtcpAt, racpAt, notifyAt};
 

@@ -3,7 +3,7 @@ use crate::results::settle_event;
 use clock::events::disconnect;
 use clock::events::seconds;
 use clock::events::switches;
-use image::state::clock_of;
+use state_bytes::state::clock_of;
 ghost use mathlib.Core.Path.{_≡_};
 ghost use Rattle.server_bytes.specs.Results.{ran};
 ghost use Rattle.server_bytes.specs.Events.{secondsAt, switchesAt, disconnectAt};

@@ -2,17 +2,17 @@
 use clock::answers::Answer;
 use clock::answers::number_of;
 use clock::events::Event;
-use image::state::image_of;
 use octets::parts::copy;
-use refusals::reply::Reply;
-use refusals::reply::done;
-use transfer::notify::Notified;
+use racp_notify::notify::Notified;
+use rows::reply::Reply;
+use rows::reply::done;
+use state_bytes::state::image_of;
 ghost use mathlib.Core.Path.{_≡_};
 ghost use mathlib.Core.Bool.{true};
 ghost use Prim.Native.Nat.{_≤_};
 ghost use lib.ListN.{length};
-ghost use Rattle.refusals.specs.Outcome.{doneB};
-ghost use Rattle.image.specs.State.{stateBytes};
+ghost use Rattle.rows.specs.Outcome.{doneB};
+ghost use Rattle.state_bytes.specs.State.{stateBytes};
 ghost use Rattle.server_bytes.specs.Results.{resultOf, replyOf, ran, settledOf};
 
 // The number of bytes written, or below 0 minus the paper's number.

@@ -1,9 +1,9 @@
 // What a client reads of the three characteristics.
 use crate::results::result_of;
-use image::state::clock_of;
-use values::value::device_time;
-use values::value::feature;
-use values::value::parameters;
+use characteristics::value::device_time;
+use characteristics::value::feature;
+use characteristics::value::parameters;
+use state_bytes::state::clock_of;
 ghost use mathlib.Core.Path.{_≡_};
 ghost use Rattle.server_bytes.specs.ValuesRead.{shown, deviceTimeAt, featureAt, parametersAt};
 

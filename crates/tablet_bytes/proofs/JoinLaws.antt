@@ -6,16 +6,16 @@ use Prim.Native.Nat.{ℕ}
 use borrow.Author.Tests.{eq-eqb, ne-eqb}
 use lib.IntN.{ℤ}
 use lib.ListN.{length, replicate}
-use Rattle.tablet.specs.Joining.{joinOf, numberOf}
-use Rattle.tablet.specs.declared.joining.Answer.the-variants.{Refused}
-use Rattle.tablet.specs.declared.joining.Joined.{Joined}
-use Rattle.tablet.specs.declared.joining.Joining.{Joining}
-use Rattle.image.specs.Joining.{joiningBytes, joiningImage, joiningIn}
-use Rattle.image.specs.Results.{refusal}
+use Rattle.joining.specs.Joining.{joinOf, joiningNumber}
+use Rattle.joining.specs.declared.joining.Answer.the-variants.{Refused}
+use Rattle.joining.specs.declared.joining.Joined.{Joined}
+use Rattle.joining.specs.declared.joining.Joining.{Joining}
+use Rattle.state_bytes.specs.JoiningState.{joiningBytes, joiningImage, joiningIn}
+use Rattle.state_bytes.specs.Results.{refusal}
 use Rattle.tablet_bytes.specs.Calls.{joinResult, joined, joinedBytes, joinAt}
 
 module _ (j n : List ℕ) where
-  pub join-short : (length j ≡ joiningBytes → ⊥) → {b : List ℕ} → b ≡ replicate (length j) 0 → joined (refusal (numberOf Refused)) b ≡ joinAt j n
+  pub join-short : (length j ≡ joiningBytes → ⊥) → {b : List ℕ} → b ≡ replicate (length j) 0 → joined (refusal (joiningNumber Refused)) b ≡ joinAt j n
   unfolding joinAt
   join-short h e = rw (ne-eqb (length j) joiningBytes h, e)
 

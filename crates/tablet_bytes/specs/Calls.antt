@@ -5,29 +5,29 @@ use lib.Dec.{eqb}
 use lib.IntN.{ℤ, pos}
 use lib.ListN.{length, replicate}
 use Rattle.octets.specs.Choice.{pick}
-use Rattle.coding.specs.WellFormed.{readOf}
-use Rattle.coding.specs.WellFormed as wellFormed
+use Rattle.record_read.specs.Reading.{readOf}
+use Rattle.record_read.specs.Reading as wellFormed
 use Rattle.record.specs.declared.kinds.Reading.{Reading}
 use Rattle.record.specs.declared.kinds.Reading.the-variants.{Is}
 use Rattle.record.specs.declared.kinds.Reading.the-variants as readings
 use Rattle.record.specs.declared.kinds.Record.{Record}
 use Rattle.record.specs.declared.kinds.Record.the-variants.{TimeUpdate, TimeFault}
-use Rattle.tablet.specs.Joining.{joinOf, numberOf}
-use Rattle.tablet.specs.declared.joining.Answer.{Answer}
-use Rattle.tablet.specs.declared.joining.Answer.the-variants.{More, Whole, Refused}
-use Rattle.tablet.specs.declared.joining.Joined.{Joined}
-use Rattle.carry.specs.Carry.{carryOf}
-use Rattle.carry.specs.Carry as carry
+use Rattle.joining.specs.Joining.{joinOf, joiningNumber}
+use Rattle.joining.specs.declared.joining.Answer.{Answer}
+use Rattle.joining.specs.declared.joining.Answer.the-variants.{More, Whole, Refused}
+use Rattle.joining.specs.declared.joining.Joined.{Joined}
+use Rattle.carry.specs.Stamp.{carryOf}
+use Rattle.carry.specs.Stamp as carry
 use Rattle.carry.specs.declared.stamp.Carried.{Carried}
 use Rattle.carry.specs.declared.stamp.Carried.the-variants.{To, TableNotSound, NotHeld, FaultAmong, PastRange}
-use Rattle.image.specs.Joining.{joiningBytes, joiningImage, joiningIn}
-use Rattle.image.specs.Results.{refusal}
+use Rattle.state_bytes.specs.JoiningState.{joiningBytes, joiningImage, joiningIn}
+use Rattle.state_bytes.specs.Results.{refusal}
 
 -- "0 more to come, 1 to 45: a whole record of that length stands in joining"
 abbrev pub joinResult : Answer → ℕ → ℤ
 joinResult More n = pos 0
 joinResult Whole n = pos n
-joinResult Refused n = refusal (numberOf Refused)
+joinResult Refused n = refusal (joiningNumber Refused)
 
 -- the result, and the bytes of the joining state after it
 pub record JoinedBytes : Type 0 where
@@ -45,7 +45,7 @@ unfoldable pub joinAt : List ℕ → List ℕ → JoinedBytes
 joinAt j n =
     pick (eqb (length j) joiningBytes)
     (joinedBytes (joinOf (joiningIn j) n))
-    (joined (refusal (numberOf Refused)) (replicate (length j) 0))
+    (joined (refusal (joiningNumber Refused)) (replicate (length j) 0))
 
 -- "sequence, type, status, old status, fault count, zone byte, DST, source, accuracy, base, old base; 0 where the type has none"
 unfoldable pub fieldsIn : Record → List ℕ
@@ -68,7 +68,7 @@ numbersAfter f (Is r) = fieldsIn r
 numbersAfter f readings.Refused = f
 
 unfoldable pub readAt : List ℕ → List ℕ → ReadNumbers
-readAt b f = reading (refusal (wellFormed.numberOf (readOf b))) (numbersAfter f (readOf b))
+readAt b f = reading (refusal (wellFormed.readingNumber (readOf b))) (numbersAfter f (readOf b))
 
 -- the result, minus the number that carrying answers, and the carried stamp after it
 pub record CarriedTo : Type 0 where
@@ -87,4 +87,4 @@ stampAfter y FaultAmong = y
 stampAfter y PastRange = y
 
 unfoldable pub carryAt : ℕ → ℕ → List ℕ → ℤ → CarriedTo
-carryAt stamp q t y = carrying (refusal (carry.numberOf (carryOf stamp q t))) (stampAfter y (carryOf stamp q t))
+carryAt stamp q t y = carrying (refusal (carry.carryingNumber (carryOf stamp q t))) (stampAfter y (carryOf stamp q t))

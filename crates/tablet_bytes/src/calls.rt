@@ -1,16 +1,16 @@
 // The tablet's calls: joining, reading, carrying.
 use carry::stamp::Carried;
 use carry::stamp::carry;
-use coding::reading::read;
-use image::joining::JOINING_BYTES;
-use image::joining::joining_image;
-use image::joining::joining_in;
+use joining::joining::Answer;
+use joining::joining::join;
 use octets::parts::clear;
 use octets::parts::copy;
 use record::kinds::Reading;
 use record::kinds::Record;
-use tablet::joining::Answer;
-use tablet::joining::join;
+use record_read::reading::read;
+use state_bytes::joining_state::JOINING_BYTES;
+use state_bytes::joining_state::joining_image;
+use state_bytes::joining_state::joining_in;
 ghost use mathlib.Core.Path.{_≡_};
 ghost use Rattle.tablet_bytes.specs.Calls.{joinResult, fieldsIn, joined, joinAt, reading, readAt, carrying, carryAt};
 

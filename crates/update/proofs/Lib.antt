@@ -1,3 +1,5 @@
-pub mod DecideLaws
-pub mod AcceptLaws
-pub mod ResponseLaws
+pub mod FaultLaws
+pub mod BeginLaws
+pub mod UpdateLaws
+pub mod PromiseLaws
+pub mod ReplyLaws

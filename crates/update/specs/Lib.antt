@@ -1,3 +1,4 @@
-pub mod Decide
-pub mod Accept
-pub mod Response
+pub mod Fault
+pub mod Start
+pub mod TimeUpdate
+pub mod Theorems

@@ -1,5 +1,7 @@
-// What is decided of a time update, by value (document 01, "Time updates"): the decision, `decide`; the clock and the
-// record of a time that is taken, `accept`; the response, `response`. No buffer is written here.
-pub mod accept;
-pub mod decide;
-pub mod response;
+// The server's calls that write the log table: starting a reader, `start`; the time fault, `fault`; a time update,
+// `time_update`. Each tests its rows at the door, decides, and then writes. What is promised of them together,
+// `theorems`.
+pub mod fault;
+pub mod start;
+pub mod theorems;
+pub mod time_update;

@@ -2,7 +2,7 @@
 -- Assumes nothing.
 use mathlib.Core.Path.{ap, _∙_}
 use mathlib.Core.List.{List}
-use Rattle.day.specs.declared.play.Happening.{Happening}
+use Rattle.day_play.specs.declared.play.Happening.{Happening}
 use Rattle.loading_day.specs.Page.{sheetOf}
 use Rattle.loading_day.specs.Story.{theDay}
 use borrow.Author.Needs.{needs}

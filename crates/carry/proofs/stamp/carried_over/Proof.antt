@@ -8,7 +8,7 @@ use mir.Syntax.{w64}
 use mir.Val.{toZ, ofZ}
 use mir.Facts.{toZ-ofZ, toZ-pos}
 use Rattle.table.specs.Table.{count, held}
-use Rattle.carry.specs.Carry.{movedBy, carriedOver}
+use Rattle.carry.specs.Stamp.{movedBy, carriedOver}
 use Rattle.carry.proofs.CarryLaws.{Within, over-fault, over-update, turn-within, turn-fits, sum-done}
 use borrow.Author.Needs.{needs}
 use native.Mathlib.Omega.{arith}

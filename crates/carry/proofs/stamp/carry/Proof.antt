@@ -4,7 +4,7 @@ use mathlib.Core.Path.{_≡_, sym, _∙_}
 use mathlib.Core.Bool.{true}
 use Prim.Native.Nat.{_-_}
 use Rattle.table.specs.Table.{next, soundB}
-use Rattle.carry.specs.Carry.{laterOf}
+use Rattle.carry.specs.Stamp.{laterOf}
 use Rattle.carry.proofs.CarryLaws.{carry-unsound, carry-not-held, carry-over}
 use borrow.Author.Needs.{needs}
 use borrow.Author.Tests.{not-true, not-false}

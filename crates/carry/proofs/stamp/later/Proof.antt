@@ -2,7 +2,7 @@
 -- Assumes nothing.
 use borrow.Author.Needs.{needs}
 use native.Mathlib.Omega.{arith}
-use Rattle.carry.specs.Carry.{laterOf}
+use Rattle.carry.specs.Stamp.{laterOf}
 use Rattle.carry.proofs.stamp.later.Statement.{statement}
 use Rattle.carry.proofs.stamp.later.Tie as tie
 

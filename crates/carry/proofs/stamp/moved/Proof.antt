@@ -4,7 +4,7 @@ use mathlib.Core.Path.{_≡_, sym, ap, _∙_}
 use lib.IntN.{pos, _-ℤ_}
 use mir.Facts.{toZ-ofZ}
 use borrow.Author.Needs.{needs}
-use Rattle.carry.specs.Carry.{movedBy}
+use Rattle.carry.specs.Stamp.{movedBy}
 use Rattle.carry.proofs.stamp.moved.Statement.{statement}
 use Rattle.carry.proofs.stamp.moved.Tie as tie
 

@@ -3,7 +3,7 @@
 use mathlib.Core.Path.{_≡_, sym, _∙_}
 use mathlib.Core.Bool.{true}
 use borrow.Author.Tests.{not-true, not-false}
-use Rattle.clock.specs.Rules.{clockB}
+use Rattle.clock.specs.Obeys.{clockB}
 use Rattle.clock.specs.Events.{withBase}
 use Rattle.clock.proofs.RuleLaws.{clock-reads}
 use Rattle.clock.proofs.EventLaws.{seconds-2, seconds-7, seconds-done}

@@ -1,6 +1,6 @@
 -- `clock_ok` is `clockB`: the time's rule and the report's.
 -- Assumes nothing.
-use Rattle.clock.specs.Rules.{clockB}
+use Rattle.clock.specs.Obeys.{clockB}
 use borrow.Author.Needs.{needs}
 use Rattle.clock.proofs.obeys.clock_ok.Statement.{statement}
 use Rattle.clock.proofs.obeys.clock_ok.Tie as tie

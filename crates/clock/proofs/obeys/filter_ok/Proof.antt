@@ -1,6 +1,6 @@
 -- `filter_ok` is `filterB`, operator by operator.
 -- Assumes nothing.
-use Rattle.clock.specs.Rules.{filterB}
+use Rattle.clock.specs.Obeys.{filterB}
 use borrow.Author.Needs.{needs}
 use Rattle.clock.proofs.obeys.filter_ok.Statement.{statement}
 use Rattle.clock.proofs.obeys.filter_ok.Tie as tie

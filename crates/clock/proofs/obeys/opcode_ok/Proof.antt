@@ -2,7 +2,7 @@
 -- Assumes nothing.
 use mathlib.Core.Logic.{⊎-elim, inl, inr}
 use borrow.Author.Tests.{ne-eqb}
-use Rattle.clock.specs.Rules.{opcodeB}
+use Rattle.clock.specs.Obeys.{opcodeB}
 use Rattle.clock.proofs.obeys.opcode_ok.Statement.{statement}
 use Rattle.clock.proofs.obeys.opcode_ok.Tie as tie
 

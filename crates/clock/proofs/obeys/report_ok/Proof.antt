@@ -1,6 +1,6 @@
 -- `report_ok` is `reportB`: each part by its rule.
 -- Assumes nothing.
-use Rattle.clock.specs.Rules.{reportB, counterB}
+use Rattle.clock.specs.Obeys.{reportB, counterB}
 use borrow.Author.Needs.{needs}
 use Rattle.clock.proofs.obeys.report_ok.Statement.{statement}
 use Rattle.clock.proofs.obeys.report_ok.Tie as tie

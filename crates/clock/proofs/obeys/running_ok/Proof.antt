@@ -1,7 +1,7 @@
 -- `running_ok` is `runningB`: no report, or the report's rule.
 -- Assumes nothing.
 use mathlib.Core.Path.{sym, ap, _∙_}
-use Rattle.clock.specs.Rules.{runningB}
+use Rattle.clock.specs.Obeys.{runningB}
 use borrow.Author.Needs.{needs}
 use Rattle.clock.proofs.obeys.running_ok.Statement.{statement}
 use Rattle.clock.proofs.obeys.running_ok.Tie as tie

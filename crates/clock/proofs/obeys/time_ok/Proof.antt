@@ -1,6 +1,6 @@
 -- `time_ok` is `timeB`: each part by its rule.
 -- Assumes nothing.
-use Rattle.clock.specs.Rules.{timeB}
+use Rattle.clock.specs.Obeys.{timeB}
 use borrow.Author.Needs.{needs}
 use Rattle.clock.proofs.obeys.time_ok.Statement.{statement}
 use Rattle.clock.proofs.obeys.time_ok.Tie as tie

@@ -4,7 +4,7 @@ use mathlib.Core.Path.{_≡_, refl, ap, _∙_}
 use mathlib.Core.List.{List, _++_}
 use Prim.Native.Nat.{ℕ, _+_, _*_, _-_, _≤_}
 use lib.ListN.{length}
-use Rattle.lines.specs.Text.{textOf}
+use Rattle.text.specs.Line.{textOf}
 use Rattle.loading_day.specs.Page.{pageText, linesOf}
 use Rattle.loading_day.proofs.PageLaws.{rest, line-more, lines-end, page-whole}
 use borrow.Author.Needs.{needs}

@@ -2,8 +2,8 @@
 -- Assumes nothing.
 use mir.Facts.{toZ-ofZ}
 use Rattle.clock.specs.declared.state.Clock.{Clock}
-use Rattle.service.specs.Update.{updateOf}
-use Rattle.service.proofs.ReplyLaws.{update-replies}
+use Rattle.update.specs.TimeUpdate.{updateOf}
+use Rattle.update.proofs.ReplyLaws.{update-replies}
 use Rattle.server_bytes.specs.Calls.{dtcpAt}
 use Rattle.server_bytes.proofs.CallLaws.{reply-sized, reply-settled}
 use borrow.Author.Needs.{needs}

@@ -2,8 +2,8 @@
 -- Assumes nothing.
 use mir.Facts.{toZ-ofZ}
 use Rattle.clock.specs.declared.state.Clock.{Clock}
-use Rattle.service.specs.Fault.{faultOf}
-use Rattle.service.proofs.ReplyLaws.{fault-replies}
+use Rattle.update.specs.Fault.{faultOf}
+use Rattle.update.proofs.ReplyLaws.{fault-replies}
 use Rattle.server_bytes.specs.Calls.{faultAt}
 use Rattle.server_bytes.proofs.CallLaws.{reply-sized, reply-settled}
 use borrow.Author.Needs.{needs}

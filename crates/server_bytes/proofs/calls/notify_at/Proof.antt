@@ -2,8 +2,8 @@
 -- Assumes nothing.
 use mir.Facts.{toZ-ofZ}
 use Rattle.clock.specs.declared.state.Clock.{Clock}
-use Rattle.transfer.specs.Notify.{notifyOf}
-use Rattle.transfer.proofs.ReplyLaws.{notify-replies}
+use Rattle.racp_notify.specs.Notify.{notifyOf}
+use Rattle.racp_notify.proofs.ReplyLaws.{notify-replies}
 use Rattle.server_bytes.specs.Calls.{notifyAt}
 use Rattle.server_bytes.proofs.CallLaws.{notice-short, notice-sized, notice-settled}
 use borrow.Author.Needs.{needs}

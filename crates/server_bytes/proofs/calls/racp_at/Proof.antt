@@ -2,8 +2,8 @@
 -- Assumes nothing.
 use mir.Facts.{toZ-ofZ}
 use Rattle.clock.specs.declared.state.Clock.{Clock}
-use Rattle.asking.specs.Access.{accessOf}
-use Rattle.asking.proofs.ReplyLaws.{access-replies}
+use Rattle.racp_access.specs.Access.{accessOf}
+use Rattle.racp_access.proofs.ReplyLaws.{access-replies}
 use Rattle.server_bytes.specs.Calls.{racpAt}
 use Rattle.server_bytes.proofs.CallLaws.{reply-sized, reply-settled}
 use borrow.Author.Needs.{needs}

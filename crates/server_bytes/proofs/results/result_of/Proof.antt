@@ -4,7 +4,7 @@ use mathlib.Core.Path.{sym, ap, _∙_}
 use borrow.Author.Tests.{not-true, not-false}
 use mir.Facts.{toZ-pos, toZ-ofZ}
 use mir.Syntax.{w32}
-use Rattle.image.specs.Results.{refusal}
+use Rattle.state_bytes.specs.Results.{refusal}
 use Rattle.server_bytes.proofs.ResultLaws.{refusal-is, refusal-fits, result-refused, result-done}
 use borrow.Author.Needs.{needs}
 use native.Mathlib.Omega.{arith}

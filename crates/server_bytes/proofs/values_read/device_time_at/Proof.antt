@@ -4,8 +4,8 @@ use mathlib.Core.Path.{ap, _∙_}
 use mir.Facts.{toZ-ofZ}
 use native.Mathlib.Omega.{arith}
 use Rattle.clock.specs.declared.state.Clock.{Clock}
-use Rattle.values.specs.Value.{deviceTimeOf}
-use Rattle.values.proofs.ReplyLaws.{device-time-replies}
+use Rattle.characteristics.specs.Value.{deviceTimeOf}
+use Rattle.characteristics.proofs.ReplyLaws.{device-time-replies}
 use Rattle.server_bytes.specs.ValuesRead.{deviceTimeAt}
 use Rattle.server_bytes.proofs.CallLaws.{reply-short}
 use Rattle.server_bytes.proofs.ValueLaws.{reply-told}

@@ -4,7 +4,7 @@ use mathlib.Core.Path.{ap, _∙_}
 use lib.IntN.{pos}
 use mir.Facts.{toZ-ofZ}
 use Rattle.tablet_bytes.specs.Calls.{carrying}
-use Rattle.carry.specs.Carry.{numberOf}
+use Rattle.carry.specs.Stamp.{carryingNumber}
 use Rattle.tablet_bytes.proofs.TabletLaws.{carry-told}
 use borrow.Author.Needs.{needs}
 use Rattle.tablet_bytes.proofs.calls.carry_at.Statement.{statement}
@@ -29,23 +29,23 @@ enum-told-4 : tie.Need-enum-told-4
 enum-told-4 c = search needs
 
 returns : tie.Need-returns
-unfolding numberOf
+unfolding carryingNumber
 returns c = ap (carrying (pos 0)) (toZ-ofZ (record { sfits = c .known-told .given .0 .1 })) ∙ carry-told _ _ _ (c .before .before .before .before .before .args .carried .now) (c .before .before .before .carry .ensures) (c .before .to .given .1)
 
 returns-2 : tie.Need-returns-2
-unfolding numberOf
+unfolding carryingNumber
 returns-2 c = carry-told _ _ _ _ (c .before .before .carry .ensures) (c .enum-told .given .1)
 
 returns-3 : tie.Need-returns-3
-unfolding numberOf
+unfolding carryingNumber
 returns-3 c = carry-told _ _ _ _ (c .before .before .carry .ensures) (c .enum-told2 .given .1)
 
 returns-4 : tie.Need-returns-4
-unfolding numberOf
+unfolding carryingNumber
 returns-4 c = carry-told _ _ _ _ (c .before .before .carry .ensures) (c .enum-told3 .given .1)
 
 returns-5 : tie.Need-returns-5
-unfolding numberOf
+unfolding carryingNumber
 returns-5 c = carry-told _ _ _ _ (c .before .before .carry .ensures) (c .enum-told4 .given .1)
 
 pub carry-at-spec : {M : Type 1} → statement M

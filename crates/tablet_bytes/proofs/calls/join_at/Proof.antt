@@ -3,7 +3,7 @@
 use mathlib.Core.Path.{sym, ap, _∙_}
 use lib.ListN.{length}
 use mir.Facts.{toZ-ofZ}
-use Rattle.image.proofs.JoiningLaws.{joining-images}
+use Rattle.state_bytes.proofs.JoiningLaws.{joining-images}
 use Rattle.tablet_bytes.proofs.JoinLaws.{join-short, join-read}
 use borrow.Author.Needs.{needs}
 use Rattle.tablet_bytes.proofs.calls.join_at.Statement.{statement}

@@ -3,7 +3,7 @@
 use mathlib.Core.Path.{sym, ap, _∙_}
 use mir.Facts.{toZ-pos}
 use mir.Syntax.{w32}
-use Rattle.tablet.specs.declared.joining.Answer.{Answer}
+use Rattle.joining.specs.declared.joining.Answer.{Answer}
 use Rattle.tablet_bytes.specs.Calls.{joinResult}
 use borrow.Author.Needs.{needs}
 use Rattle.tablet_bytes.proofs.calls.join_result.Statement.{statement}

@@ -1,0 +1,3 @@
+pub mod Value
+pub mod Theorems
+pub mod Cases

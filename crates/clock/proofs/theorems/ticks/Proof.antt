@@ -1,0 +1,11 @@
+-- A seconds event answered 0 adds n to Base_Time and changes nothing else.
+-- Assumes nothing.
+use Rattle.clock.proofs.PromiseLaws.{ticks}
+use Rattle.clock.proofs.theorems.ticks.Statement.{statement}
+use Rattle.clock.proofs.theorems.ticks.Tie as tie
+
+returns : tie.Need-returns
+returns c = ticks
+
+pub ticks-spec : {M : Type 1} → statement M
+ticks-spec = tie.close (tie.spec returns)

@@ -1,0 +1,19 @@
+-- The lines, by computing them.
+-- Assumes nothing.
+use mathlib.Core.Path.{refl}
+use Rattle.text.specs.Line.{digitsUpTo, decimal}
+use Rattle.carry.specs.Stamp.{carryingNumber}
+use Rattle.day_sheet.specs.Sheet.{twoDigits, timeOfDay, notedOf, signedOf, outcomeOf, carriedOf, shownText, gap, apartText, pairText, tagLine}
+use Rattle.day_sheet.specs.Theorems.{Computed}
+use Rattle.day_sheet.proofs.theorems.computed.Statement.{statement}
+use Rattle.day_sheet.proofs.theorems.computed.Tie as tie
+
+all : Computed
+unfolding tagLine pairText apartText gap shownText carriedOf outcomeOf signedOf notedOf timeOfDay twoDigits carryingNumber decimal digitsUpTo
+all = record { before = refl; missed = refl; nobody = refl; unsound = refl }
+
+returns : tie.Need-returns
+returns c = all
+
+pub computed-spec : {M : Type 1} → statement M
+computed-spec = tie.close (tie.spec returns)

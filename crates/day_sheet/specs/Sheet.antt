@@ -1,0 +1,84 @@
+-- The drivers' sheet: a line for each ear tag, with the stamps that both antennas noted, the seconds between them, the same stamps carried over
+-- the clock changes logged after them, and the seconds between those. Text is ASCII: 10 ends a line, 32 is a space, 45 is `-`, 58 is `:`.
+use mathlib.Core.List.{List, [], _∷_, _++_}
+use Prim.Native.Nat.{ℕ, _+_, _-_, _/_, _%_}
+use lib.IntN.{ℤ, pos, negsuc}
+use Rattle.text.specs.Line.{decimal}
+use Rattle.carry.specs.Stamp.{carryingNumber}
+use Rattle.carry.specs.declared.stamp.Carried.{Carried}
+use Rattle.carry.specs.declared.stamp.Carried.the-variants.{To, TableNotSound, NotHeld, FaultAmong, PastRange}
+use Rattle.day_sheet.specs.declared.sheet.Shown.{Shown}
+use Rattle.day_sheet.specs.declared.sheet.Shown.the-variants.{Nothing, At, Before, Refused}
+use Rattle.day_sheet.specs.declared.sheet.Sight.{Sight}
+use Rattle.day_sheet.specs.declared.sheet.Sight.the-variants.{Missed, Seen}
+
+-- two digits
+unfoldable pub twoDigits : ℕ → List ℕ
+twoDigits n = (48 + n / 10 % 10) ∷ (48 + n % 10) ∷ []
+
+-- The time of day of a Base_Time, hh:mm:ss. Base_Time counts from a midnight, and a day has 86,400 seconds.
+unfoldable pub timeOfDay : ℕ → List ℕ
+timeOfDay base = twoDigits (base / 3600 % 24) ++ (58 ∷ (twoDigits (base / 60 % 60) ++ (58 ∷ twoDigits (base % 60))))
+
+-- what is shown of a stamp as it was noted, and of the stamp carried; "The result is signed", and a time before 2000 is no reader's
+unfoldable pub notedOf : Sight → Shown
+notedOf Missed = Nothing
+notedOf (Seen stamp carried) = At stamp
+
+unfoldable pub signedOf : ℤ → Shown
+signedOf (pos n) = At n
+signedOf (negsuc n) = Before
+
+unfoldable pub outcomeOf : Carried → Shown
+outcomeOf (To z) = signedOf z
+outcomeOf TableNotSound = Refused (carryingNumber TableNotSound)
+outcomeOf NotHeld = Refused (carryingNumber NotHeld)
+outcomeOf FaultAmong = Refused (carryingNumber FaultAmong)
+outcomeOf PastRange = Refused (carryingNumber PastRange)
+
+unfoldable pub carriedOf : Sight → Shown
+carriedOf Missed = Nothing
+carriedOf (Seen stamp carried) = outcomeOf carried
+
+-- `before`
+abbrev pub beforeWord : List ℕ
+beforeWord = 98 ∷ 101 ∷ 102 ∷ 111 ∷ 114 ∷ 101 ∷ []
+
+-- `refused `
+abbrev pub refusedWord : List ℕ
+refusedWord = 114 ∷ 101 ∷ 102 ∷ 117 ∷ 115 ∷ 101 ∷ 100 ∷ 32 ∷ []
+
+unfoldable pub shownText : Shown → List ℕ
+shownText Nothing = 45 ∷ []
+shownText (At n) = timeOfDay n
+shownText Before = beforeWord
+shownText (Refused number) = refusedWord ++ decimal number
+
+-- the seconds between two times, either way round
+unfoldable pub gap : ℕ → ℕ → ℕ
+gap a b = (a - b) + (b - a)
+
+unfoldable pub apartText : Shown → Shown → List ℕ
+apartText (At a) (At b) = decimal (gap a b)
+apartText (At a) Nothing = 45 ∷ []
+apartText (At a) Before = 45 ∷ []
+apartText (At a) (Refused number) = 45 ∷ []
+apartText Nothing y = 45 ∷ []
+apartText Before y = 45 ∷ []
+apartText (Refused number) y = 45 ∷ []
+
+-- left, right, and the seconds apart, a space before each
+unfoldable pub pairText : Shown → Shown → List ℕ
+pairText x y = 32 ∷ (shownText x ++ (32 ∷ (shownText y ++ (32 ∷ apartText x y))))
+
+-- a tag's line: the stamps as they were noted, ` |`, and the stamps carried
+unfoldable pub tagLine : ℕ → Sight → Sight → List ℕ
+tagLine tag left right =
+    decimal tag
+    ++ (pairText (notedOf left) (notedOf right)
+    ++ (32 ∷ 124 ∷ (pairText (carriedOf left) (carriedOf right)
+    ++ (10 ∷ []))))
+
+-- the line above them: `tag left right apart | carried left right apart`
+abbrev pub titleLine : List ℕ
+titleLine = 116 ∷ 97 ∷ 103 ∷ 32 ∷ 108 ∷ 101 ∷ 102 ∷ 116 ∷ 32 ∷ 114 ∷ 105 ∷ 103 ∷ 104 ∷ 116 ∷ 32 ∷ 97 ∷ 112 ∷ 97 ∷ 114 ∷ 116 ∷ 32 ∷ 124 ∷ 32 ∷ 99 ∷ 97 ∷ 114 ∷ 114 ∷ 105 ∷ 101 ∷ 100 ∷ 32 ∷ 108 ∷ 101 ∷ 102 ∷ 116 ∷ 32 ∷ 114 ∷ 105 ∷ 103 ∷ 104 ∷ 116 ∷ 32 ∷ 97 ∷ 112 ∷ 97 ∷ 114 ∷ 116 ∷ 10 ∷ []

@@ -1,4 +1,0 @@
-pub mod Results
-pub mod State
-pub mod Joining
-pub mod Promises

@@ -1,4 +1,0 @@
-// The clock state and the joining state as bytes, for a caller that keeps them in buffers between calls.
-pub mod joining;
-pub mod promises;
-pub mod state;

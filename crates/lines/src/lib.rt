@@ -1,2 +1,0 @@
-// Lines of text for what programs print, each built up by value: `text`.
-pub mod text;

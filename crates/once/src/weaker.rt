@@ -1,6 +1,0 @@
-// Weaker promises are not of one outcome: what the other theorems of this crate shut out.
-ghost use Rattle.once.specs.Weaker.{TwoOutcomes};
-
-pub fn two_outcomes()
-    ensures { λ _. ⌜ TwoOutcomes ⌝ }
-{}

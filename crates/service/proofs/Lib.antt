@@ -1,5 +1,0 @@
-pub mod FaultLaws
-pub mod BeginLaws
-pub mod UpdateLaws
-pub mod PromiseLaws
-pub mod ReplyLaws

@@ -1,4 +1,0 @@
-pub mod Fault
-pub mod Start
-pub mod Update
-pub mod Promises

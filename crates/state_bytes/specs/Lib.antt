@@ -1,0 +1,4 @@
+pub mod Results
+pub mod State
+pub mod JoiningState
+pub mod Theorems

@@ -1,0 +1,38 @@
+// The theorems over whole histories of entry-point calls: each the promise of an empty function, so that the
+// check asks for its proof.
+ghost use Rattle.theorems_bytes.specs.Fitting.{FitsKept};
+ghost use Rattle.theorems_bytes.specs.Images.{Images, Restarted};
+ghost use Rattle.theorems_bytes.specs.Stamps.{CarriedStampAt};
+ghost use Rattle.theorems_bytes.specs.Reports.{FinishedReportAt};
+ghost use Rattle.theorems_bytes.specs.Cases.{Computed};
+
+// Every field of a clock that was reached fits its width.
+pub fn fits_kept()
+    ensures { λ _. ⌜ FitsKept ⌝ }
+{}
+
+// From start on, over any calls, state and table are the image of the clock and the table by value.
+pub fn images()
+    ensures { λ _. ⌜ Images ⌝ }
+{}
+
+// A stamp that was read and is carried over the table's bytes answers exactly when it can, and then tells the
+// seconds that ran.
+pub fn carried_stamp()
+    ensures { λ _. ⌜ CarriedStampAt ⌝ }
+{}
+
+// Starting a reader that was reached is starting one.
+pub fn restarted()
+    ensures { λ _. ⌜ Restarted ⌝ }
+{}
+
+// Histories over bytes, computed: the paper's case 6, a fault; and a write that is no bytes.
+pub fn computed()
+    ensures { λ _. ⌜ Computed ⌝ }
+{}
+
+// An accepted report, joined over 48 bytes and read, gives the numbers of exactly the held records that match.
+pub fn finished_report()
+    ensures { λ _. ⌜ FinishedReportAt ⌝ }
+{}

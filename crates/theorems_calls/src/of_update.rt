@@ -1,0 +1,16 @@
+// What is promised of time updates beyond each call's own equation: each the promise of an empty function,
+// so that the check asks for its proof.
+ghost use Rattle.theorems_calls.specs.OfUpdate.{GroundsAlone, AllGrounds};
+ghost use Rattle.theorems_calls.specs.UpdateCases.{Computed};
+
+pub fn grounds_alone()
+    ensures { λ _. ⌜ GroundsAlone ⌝ }
+{}
+
+pub fn all_grounds()
+    ensures { λ _. ⌜ AllGrounds ⌝ }
+{}
+
+pub fn computed()
+    ensures { λ _. ⌜ Computed ⌝ }
+{}

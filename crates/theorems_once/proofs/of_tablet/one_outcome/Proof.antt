@@ -1,0 +1,19 @@
+-- Two outcomes that meet one equation are one.
+-- Assumes nothing.
+use mathlib.Core.Path.{refl, sym, _∙_}
+use Rattle.theorems_once.proofs.of_tablet.one_outcome.Statement.{statement}
+use Rattle.theorems_once.proofs.of_tablet.one_outcome.Tie as tie
+
+returns : tie.Need-returns
+returns c =
+    record {
+      join = (λ κs a. tt, λ κs a x y u v h p q. (p ∙ sym q, refl));
+      restart = (λ κs a. tt, λ κs a x y u v h p q. (p ∙ sym q, refl));
+      number-of = λ κs a x y u v h p q. (p ∙ sym q, refl);
+      read-joined = (λ κs a. tt, λ κs a x y u v h p q. (p ∙ sym q, refl));
+      carry = (λ κs a. tt, λ κs a x y u v h p q. (p ∙ sym q, refl));
+      carried-number = λ κs a x y u v h p q. (p ∙ sym q, refl);
+    }
+
+pub one-outcome-spec : {M : Type 1} → statement M
+one-outcome-spec = tie.close (tie.spec returns)

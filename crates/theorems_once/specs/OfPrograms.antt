@@ -1,0 +1,39 @@
+-- One outcome of each call of the programs' own crates. What is promised of a line is its text: the bytes past its `len` are left open,
+-- so it is the text that is one.
+use Rattle.theorems_once.specs.Only.{Door, DoorPart}
+use Rattle.text.specs.Line.{textOf}
+use Rattle.text.proofs.line.empty.Kinds as empty-kinds
+use Rattle.text.proofs.line.empty.Reads as empty-reads
+use Rattle.text.proofs.line.with_byte.Kinds as with-byte-kinds
+use Rattle.text.proofs.line.with_byte.Reads as with-byte-reads
+use Rattle.text.proofs.line.with_number.Kinds as with-number-kinds
+use Rattle.text.proofs.line.with_number.Reads as with-number-reads
+use Rattle.text.proofs.line.with_word.Kinds as with-word-kinds
+use Rattle.text.proofs.line.with_word.Reads as with-word-reads
+use Rattle.day_sheet.proofs.sheet.tag_line.Kinds as tag-line-kinds
+use Rattle.day_sheet.proofs.sheet.tag_line.Reads as tag-line-reads
+use Rattle.day_sheet.proofs.sheet.title_line.Kinds as title-line-kinds
+use Rattle.day_sheet.proofs.sheet.title_line.Reads as title-line-reads
+use Rattle.day_play.proofs.reader.started.Kinds as started-kinds
+use Rattle.day_play.proofs.reader.started.Reads as started-reads
+use Rattle.day_play.proofs.reader.lived.Kinds as lived-kinds
+use Rattle.day_play.proofs.reader.lived.Reads as lived-reads
+use Rattle.day_play.proofs.play.played.Kinds as played-kinds
+use Rattle.day_play.proofs.play.played.Reads as played-reads
+use Rattle.day_evening.proofs.fetch.fetched.Kinds as fetched-kinds
+use Rattle.day_evening.proofs.fetch.fetched.Reads as fetched-reads
+use Rattle.day_evening.proofs.fetch.sight.Kinds as sight-kinds
+use Rattle.day_evening.proofs.fetch.sight.Reads as sight-reads
+
+pub record OneOutcome : Type 0 where
+  pub empty : DoorPart empty-kinds.ps empty-kinds.r (λ κs. textOf) empty-reads.Pre empty-reads.Post
+  pub with-byte : DoorPart with-byte-kinds.ps with-byte-kinds.r (λ κs. textOf) with-byte-reads.Pre with-byte-reads.Post
+  pub with-number : DoorPart with-number-kinds.ps with-number-kinds.r (λ κs. textOf) with-number-reads.Pre with-number-reads.Post
+  pub with-word : DoorPart with-word-kinds.ps with-word-kinds.r (λ κs. textOf) with-word-reads.Pre with-word-reads.Post
+  pub tag-line : DoorPart tag-line-kinds.ps tag-line-kinds.r (λ κs. textOf) tag-line-reads.Pre tag-line-reads.Post
+  pub title-line : DoorPart title-line-kinds.ps title-line-kinds.r (λ κs. textOf) title-line-reads.Pre title-line-reads.Post
+  pub started : Door started-kinds.ps started-kinds.r started-reads.Pre started-reads.Post
+  pub lived : Door lived-kinds.ps lived-kinds.r lived-reads.Pre lived-reads.Post
+  pub played : Door played-kinds.ps played-kinds.r played-reads.Pre played-reads.Post
+  pub fetched : Door fetched-kinds.ps fetched-kinds.r fetched-reads.Pre fetched-reads.Post
+  pub sight : Door sight-kinds.ps sight-kinds.r sight-reads.Pre sight-reads.Post

@@ -1,0 +1,49 @@
+-- One outcome of each call on the rules of fields, on filters and on records; what a lent slice holds is only read. `read` is a door.
+use Rattle.theorems_once.specs.Only.{Only, Door}
+use Rattle.rules.proofs.fields.base_ok.Kinds as base-ok-kinds
+use Rattle.rules.proofs.fields.base_ok.Reads as base-ok-reads
+use Rattle.rules.proofs.fields.zone_ok.Kinds as zone-ok-kinds
+use Rattle.rules.proofs.fields.zone_ok.Reads as zone-ok-reads
+use Rattle.rules.proofs.fields.dst_ok.Kinds as dst-ok-kinds
+use Rattle.rules.proofs.fields.dst_ok.Reads as dst-ok-reads
+use Rattle.rules.proofs.fields.source_ok.Kinds as source-ok-kinds
+use Rattle.rules.proofs.fields.source_ok.Reads as source-ok-reads
+use Rattle.rules.proofs.fields.status_ok.Kinds as status-ok-kinds
+use Rattle.rules.proofs.fields.status_ok.Reads as status-ok-reads
+use Rattle.filter.proofs.filter.matches.Kinds as matches-kinds
+use Rattle.filter.proofs.filter.matches.Reads as matches-reads
+use Rattle.record.proofs.fields.sequence_of.Kinds as sequence-of-kinds
+use Rattle.record.proofs.fields.sequence_of.Reads as sequence-of-reads
+use Rattle.record.proofs.fields.type_of.Kinds as type-of-kinds
+use Rattle.record.proofs.fields.type_of.Reads as type-of-reads
+use Rattle.record.proofs.fields.base_of.Kinds as base-of-kinds
+use Rattle.record.proofs.fields.base_of.Reads as base-of-reads
+use Rattle.record.proofs.fields.old_base_of.Kinds as old-base-of-kinds
+use Rattle.record.proofs.fields.old_base_of.Reads as old-base-of-reads
+use Rattle.record_write.proofs.writing.write.Kinds as write-kinds
+use Rattle.record_write.proofs.writing.write.Reads as write-reads
+use Rattle.record_write.proofs.writing.length_of.Kinds as length-of-kinds
+use Rattle.record_write.proofs.writing.length_of.Reads as length-of-reads
+use Rattle.record_read.proofs.reading.record_of.Kinds as record-of-kinds
+use Rattle.record_read.proofs.reading.record_of.Reads as record-of-reads
+use Rattle.record_read.proofs.reading.read.Kinds as read-kinds
+use Rattle.record_read.proofs.reading.read.Reads as read-reads
+use Rattle.record_read.proofs.reading.reading_number.Kinds as number-of-kinds
+use Rattle.record_read.proofs.reading.reading_number.Reads as number-of-reads
+
+pub record OneOutcome : Type 0 where
+  pub base-ok : Only base-ok-kinds.ps base-ok-kinds.r base-ok-reads.Pre base-ok-reads.Post
+  pub zone-ok : Only zone-ok-kinds.ps zone-ok-kinds.r zone-ok-reads.Pre zone-ok-reads.Post
+  pub dst-ok : Only dst-ok-kinds.ps dst-ok-kinds.r dst-ok-reads.Pre dst-ok-reads.Post
+  pub source-ok : Only source-ok-kinds.ps source-ok-kinds.r source-ok-reads.Pre source-ok-reads.Post
+  pub status-ok : Only status-ok-kinds.ps status-ok-kinds.r status-ok-reads.Pre status-ok-reads.Post
+  pub matches : Only matches-kinds.ps matches-kinds.r matches-reads.Pre matches-reads.Post
+  pub sequence-of : Only sequence-of-kinds.ps sequence-of-kinds.r sequence-of-reads.Pre sequence-of-reads.Post
+  pub type-of : Only type-of-kinds.ps type-of-kinds.r type-of-reads.Pre type-of-reads.Post
+  pub base-of : Only base-of-kinds.ps base-of-kinds.r base-of-reads.Pre base-of-reads.Post
+  pub old-base-of : Only old-base-of-kinds.ps old-base-of-kinds.r old-base-of-reads.Pre old-base-of-reads.Post
+  pub write : Only write-kinds.ps write-kinds.r write-reads.Pre write-reads.Post
+  pub length-of : Only length-of-kinds.ps length-of-kinds.r length-of-reads.Pre length-of-reads.Post
+  pub record-of : Only record-of-kinds.ps record-of-kinds.r record-of-reads.Pre record-of-reads.Post
+  pub read : Door read-kinds.ps read-kinds.r read-reads.Pre read-reads.Post
+  pub number-of : Only number-of-kinds.ps number-of-kinds.r number-of-reads.Pre number-of-reads.Post

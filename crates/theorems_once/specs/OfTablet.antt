@@ -1,0 +1,22 @@
+-- One outcome of each of the tablet's doors, and of the numbers of their answers. Its reading of bytes is `read` of the records.
+use Rattle.theorems_once.specs.Only.{Only, Door}
+use Rattle.joining.proofs.joining.join.Kinds as join-kinds
+use Rattle.joining.proofs.joining.join.Reads as join-reads
+use Rattle.joining.proofs.joining.restart.Kinds as restart-kinds
+use Rattle.joining.proofs.joining.restart.Reads as restart-reads
+use Rattle.joining.proofs.joining.joining_number.Kinds as number-of-kinds
+use Rattle.joining.proofs.joining.joining_number.Reads as number-of-reads
+use Rattle.joining.proofs.reading.read_joined.Kinds as read-joined-kinds
+use Rattle.joining.proofs.reading.read_joined.Reads as read-joined-reads
+use Rattle.carry.proofs.stamp.carry.Kinds as carry-kinds
+use Rattle.carry.proofs.stamp.carry.Reads as carry-reads
+use Rattle.carry.proofs.stamp.carrying_number.Kinds as carried-number-kinds
+use Rattle.carry.proofs.stamp.carrying_number.Reads as carried-number-reads
+
+pub record OneOutcome : Type 0 where
+  pub join : Door join-kinds.ps join-kinds.r join-reads.Pre join-reads.Post
+  pub restart : Door restart-kinds.ps restart-kinds.r restart-reads.Pre restart-reads.Post
+  pub number-of : Only number-of-kinds.ps number-of-kinds.r number-of-reads.Pre number-of-reads.Post
+  pub read-joined : Door read-joined-kinds.ps read-joined-kinds.r read-joined-reads.Pre read-joined-reads.Post
+  pub carry : Door carry-kinds.ps carry-kinds.r carry-reads.Pre carry-reads.Post
+  pub carried-number : Only carried-number-kinds.ps carried-number-kinds.r carried-number-reads.Pre carried-number-reads.Post

@@ -1,0 +1,3 @@
+pub mod DecideLaws
+pub mod AcceptLaws
+pub mod ResponseLaws

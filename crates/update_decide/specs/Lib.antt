@@ -1,0 +1,3 @@
+pub mod Decide
+pub mod Accept
+pub mod Response

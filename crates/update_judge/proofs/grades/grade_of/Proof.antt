@@ -1,0 +1,43 @@
+-- `grade_of` is `gradeOf`, flag by flag.
+-- Assumes nothing.
+use borrow.Author.Tests.{eq-eqb, ne-eqb}
+use Rattle.update_judge.specs.Grades.{localB, gradeOf}
+use Rattle.update_judge.proofs.grades.grade_of.Statement.{statement}
+use Rattle.update_judge.proofs.grades.grade_of.Tie as tie
+
+returns : tie.Need-returns
+unfolding gradeOf localB
+returns c = simp (ne-eqb _ _ (c .if1 .taken))
+
+returns-2 : tie.Need-returns-2
+unfolding gradeOf localB
+returns-2 c = simp (eq-eqb _ _ (c .before .if1 .left), ne-eqb _ _ (c .if2 .taken))
+
+returns-3 : tie.Need-returns-3
+unfolding gradeOf localB
+returns-3 c = simp (eq-eqb _ _ (c .before .before .before .if1 .left), eq-eqb _ _ (c .before .before .if2 .left), eq-eqb _ _ (c .if3 .taken))
+
+returns-4 : tie.Need-returns-4
+unfolding gradeOf localB
+returns-4 c =
+    let b = c .before .before in
+    simp (
+      eq-eqb _ _ (b .before .before .before .if1 .left),
+      eq-eqb _ _ (b .before .before .if2 .left),
+      ne-eqb _ _ (b .if3 .left),
+      eq-eqb _ _ (c .if4 .taken),
+    )
+
+returns-5 : tie.Need-returns-5
+unfolding gradeOf localB
+returns-5 c =
+    let b = c .before .before in
+    simp (
+      eq-eqb _ _ (b .before .before .before .if1 .left),
+      eq-eqb _ _ (b .before .before .if2 .left),
+      ne-eqb _ _ (b .if3 .left),
+      ne-eqb _ _ (c .if4 .left),
+    )
+
+pub grade-of-spec : {M : Type 1} → statement M
+grade-of-spec = tie.close (tie.spec returns returns-2 returns-3 returns-4 returns-5)

@@ -1,3 +1,0 @@
-pub mod Value
-pub mod Promises
-pub mod Cases
