@@ -20,17 +20,17 @@ pub fn notify(
     p: u32,
     out: &mut [u8],
 ) -> Result<i32, Refusal> {
-    let (clock, log) = state_bytes::clock_and_log(numbers, state, table)?;
+    let (clock, log) = image::clock_and_log(numbers, state, table)?;
     let payload = payload(numbers, p, out)?;
     let report = clock.report.ok_or(Refusal::NoReport)?;
     let (after, answer) = match report.left {
-        None => (None, CLOSING + racp_request::respond(out, &closing(&log, &report))),
+        None => (None, CLOSING + access::respond(out, &closing(&log, &report))),
         Some(left) => {
             let (after, length) = send(numbers, &log, &report, left, &mut out[..payload]);
             (Some(after), length as i32)
         }
     };
-    state_bytes::put_clock(state, &Clock { report: after, ..clock });
+    image::put_clock(state, &Clock { report: after, ..clock });
     Ok(answer)
 }
 
@@ -44,10 +44,10 @@ fn payload(numbers: &Numbers, p: u32, out: &[u8]) -> Result<usize, Refusal> {
 }
 
 fn closing(log: &Log, report: &Report) -> [u8; 4] {
-    if report.opcode == racp_request::COMBINED_REPORT {
-        racp_request::combined_response(racp_request::count(log, report.filter))
+    if report.opcode == access::COMBINED_REPORT {
+        access::combined_response(access::count(log, report.filter))
     } else {
-        racp_request::response(report.opcode, racp_request::SUCCESS)
+        access::response(report.opcode, access::SUCCESS)
     }
 }
 
@@ -72,7 +72,7 @@ fn send(
     let after = Report {
         counter: numbers.counter_after(report.counter),
         left: if is_last {
-            racp_request::left_from(log, report.filter, age + 1)
+            access::left_from(log, report.filter, age + 1)
         } else {
             Some(Left { sent: left.sent + body.len() as u8, ..left })
         },

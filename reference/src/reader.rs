@@ -89,11 +89,11 @@ impl Reader for Reference {
     }
 
     fn dtcp_write(&self, state: &mut [u8], table: &mut [u8], write: &[u8], out: &mut [u8]) -> i32 {
-        answer(update_decide::write(&self.numbers, state, table, write, out))
+        answer(update::write(&self.numbers, state, table, write, out))
     }
 
     fn racp_write(&self, state: &mut [u8], table: &[u8], write: &[u8], out: &mut [u8]) -> i32 {
-        answer(racp_request::write(&self.numbers, state, table, write, out))
+        answer(access::write(&self.numbers, state, table, write, out))
     }
 
     fn notify(&self, state: &mut [u8], table: &[u8], p: u32, out: &mut [u8]) -> i32 {
@@ -123,15 +123,15 @@ impl Reader for Reference {
     }
 
     fn device_time(&self, state: &[u8], table: &[u8], out: &mut [u8]) -> i32 {
-        answer(state_bytes::device_time(&self.numbers, state, table, out))
+        answer(image::device_time(&self.numbers, state, table, out))
     }
 
     fn feature(&self, out: &mut [u8]) -> i32 {
-        answer(state_bytes::feature(&self.numbers, out))
+        answer(image::feature(&self.numbers, out))
     }
 
     fn parameters(&self, out: &mut [u8]) -> i32 {
-        answer(state_bytes::parameters(&self.numbers, out))
+        answer(image::parameters(&self.numbers, out))
     }
 
     fn att_error(&self, number: u32) -> i32 {
