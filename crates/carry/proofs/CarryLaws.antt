@@ -25,13 +25,13 @@ use Rattle.record.specs.declared.kinds.Update.{Update}
 use Rattle.record.specs.declared.kinds.Record.{Record}
 use Rattle.record.specs.declared.kinds.Record.the-variants.{TimeUpdate, TimeFault}
 use Rattle.table.specs.Table.{count, next, held, soundB}
-use Rattle.table_write.specs.Writing.{newest}
+use Rattle.table_write.specs.Append.{newest}
 use Rattle.table.proofs.HeadLaws.{sound-head}
 use Rattle.table_write.proofs.HistoryLaws.{length-held}
 use Rattle.table_look.proofs.LookLaws.{none-left}
 use Rattle.table_look.proofs.KindLaws.{held-rules}
 use Rattle.carry.specs.Stamp.{laterOf, fits64, movedBy, carriedOver, carriedFrom, carryOf, carryingNumber, noFaultB}
-use Rattle.carry.specs.Theorems.{Answers, NeverPastRange, Unchanged}
+use Rattle.carry.specs.Theorems.{AnswersWhen, NeverPastRange, Unchanged}
 use Rattle.carry.specs.declared.stamp.Carried.{Carried}
 use Rattle.carry.specs.declared.stamp.Carried.the-variants.{To, TableNotSound, NotHeld, FaultAmong}
 use Rattle.carry.proofs.IntLaws.{mag-difference, mag-sum}
@@ -128,7 +128,7 @@ module _ (stamp q : ℕ) (t : List ℕ) where
       let from : count t - laterOf (next t) q ≡ n = omega arith in
       simp (sd, length-held t, le-leb _ _ m, from, e)
 
-pub answers : Answers
+pub answers : AnswersWhen
 unfolding carryingNumber
 answers stamp q t h = go (soundB t) (leb (laterOf (next t) q) (count t)) refl refl
   where

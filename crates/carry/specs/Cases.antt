@@ -9,12 +9,13 @@ use Rattle.octets.specs.Numbers.{bytes2}
 use Rattle.octets.specs.Parts.{zerosB, over}
 use Rattle.rules.specs.Fields.{baseB, zoneB, dstB, sourceB, statusB, bitsB}
 use Rattle.record.specs.Fields.{sequenceOf}
-use Rattle.record_write.specs.Layout.{updateBytes, faultBytes, bytesOf, updateAt, faultAt, recordOf, sizedB, shapeB}
+use Rattle.record_write.specs.Layout.{updateBytes, faultBytes, bytesOf, updateRead, faultRead, recordOf, sizedB, shapeB}
 use Rattle.record_read.specs.Reading.{updateB, faultB, recordB, wellFormedB}
 use Rattle.record.specs.declared.kinds.Record.{Record}
 use Rattle.record.specs.declared.kinds.Record.the-variants.{TimeUpdate, TimeFault}
 use Rattle.table.specs.Table.{sizeB, startB, emptyB, fieldsB, headB, slot, bytesIn, recordIn, slots, ring, held, slotB, rowB, soundB, steps}
-use Rattle.table_write.specs.Writing.{fresh, placeOf, slotOf, headerAfter, appendOf, logAll}
+use Rattle.table_write.specs.Start.{fresh}
+use Rattle.table_write.specs.Append.{placeOf, slotOf, headerAfter, appendOf, logAll}
 use Rattle.carry.specs.Stamp.{laterOf, carriedOver, carriedFrom, carryOf, movedBy}
 use Rattle.carry.specs.declared.stamp.Carried.{Carried}
 use Rattle.carry.specs.declared.stamp.Carried.the-variants.{To, TableNotSound, NotHeld, FaultAmong}
@@ -135,7 +136,7 @@ table =
 
 -- `carryOf` of a case with all that it cites laid open, for the checker to compute
 unfoldable pub got : Case → Carried
-unfolding carryOf carriedFrom carriedOver movedBy laterOf soundB headB sizeB startB emptyB fieldsB slot bytesIn recordIn slots ring held slotB rowB wellFormedB shapeB sizedB recordB updateB faultB recordOf updateAt faultAt sequenceOf baseB zoneB dstB sourceB statusB bitsB zerosB over fresh logAll appendOf steps placeOf slotOf headerAfter bytesOf updateBytes faultBytes
+unfolding carryOf carriedFrom carriedOver movedBy laterOf soundB headB sizeB startB emptyB fieldsB slot bytesIn recordIn slots ring held slotB rowB wellFormedB shapeB sizedB recordB updateB faultB recordOf updateRead faultRead sequenceOf baseB zoneB dstB sourceB statusB bitsB zerosB over fresh logAll appendOf steps placeOf slotOf headerAfter bytesOf updateBytes faultBytes
 got k = carryOf (k .stamp) (k .q) (k .table)
 
 unfoldable pub expected : Case → Carried

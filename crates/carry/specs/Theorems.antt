@@ -8,14 +8,14 @@ use lib.Dec.{leb}
 use lib.IntN.{pos}
 use Rattle.octets.specs.Choice.{pick}
 use Rattle.table.specs.Table.{count, next, held, soundB}
-use Rattle.table_write.specs.Writing.{newest}
+use Rattle.table_write.specs.Append.{newest}
 use Rattle.carry.specs.Stamp.{laterOf, noFaultB, carryOf, carryingNumber}
 use Rattle.carry.specs.declared.stamp.Carried.the-variants.{To, PastRange}
 
 -- Carrying refuses with 1 exactly where the table isn't sound, else with 12 exactly where m exceeds H, else with 13 exactly where a Time_Fault is
 -- among the m newest records.
-abbrev pub Answers : Type 0
-Answers = (stamp q : ℕ) (t : List ℕ) → stamp < 4294967296
+abbrev pub AnswersWhen : Type 0
+AnswersWhen = (stamp q : ℕ) (t : List ℕ) → stamp < 4294967296
     → let m = laterOf (next t) q in
     carryingNumber (carryOf stamp q t) ≡ pick (soundB t) (pick (leb m (count t)) (pick (noFaultB (newest m (held t))) 0 13) 12) 1
 

@@ -1,11 +1,11 @@
 // What is promised of carrying beyond each call's own equation: each the promise of an empty function,
 // so that the check asks for its proof.
-ghost use Rattle.carry.specs.Theorems.{Answers, NeverPastRange, Unchanged};
+ghost use Rattle.carry.specs.Theorems.{AnswersWhen, NeverPastRange, Unchanged};
 ghost use Rattle.carry.specs.Cases.{Computed};
 
 // Each refusal exactly where its row says so.
 pub fn answers()
-    ensures { λ _. ⌜ Answers ⌝ }
+    ensures { λ _. ⌜ AnswersWhen ⌝ }
 {}
 
 // No answer is 14.

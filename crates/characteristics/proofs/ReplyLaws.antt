@@ -12,7 +12,7 @@ use Rattle.octets.specs.Parts.{over}
 use Rattle.clock.specs.Obeys.{clockB}
 use Rattle.clock.specs.declared.answers.Answer.the-variants.{Done, OutputShort}
 use Rattle.clock.specs.declared.state.Clock.{Clock}
-use Rattle.rows.specs.Outcome.{Outcome, doneB, answered}
+use Rattle.rows.specs.Reply.{Outcome, doneB, answered}
 use Rattle.rows.specs.Rows.{firstFailed, tableRows}
 use Rattle.rows.proofs.ReplyLaws.{brokenOf, Replies, broken-refused, table-broken}
 use Rattle.characteristics.specs.Value.{featureBytes, parametersBytes, deviceTimeBytes, deviceTimeOf, Told, told, value, toldOf, featureOf, parametersOf}

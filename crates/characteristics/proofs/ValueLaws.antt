@@ -14,7 +14,7 @@ use Rattle.table.specs.Table.{next}
 use Rattle.clock.specs.Answers.{numberOf}
 use Rattle.clock.specs.declared.answers.Answer.the-variants.{Done, OutputShort}
 use Rattle.clock.specs.declared.state.Clock.{Clock}
-use Rattle.rows.specs.Outcome.{Outcome, doneB, refused, answered}
+use Rattle.rows.specs.Reply.{Outcome, doneB, refused, answered}
 use Rattle.rows.specs.Rows.{firstFailed, tableRows}
 use Rattle.update.specs.Theorems.{Untouched}
 use Rattle.characteristics.specs.Value.{deviceTimeBytes, deviceTimeOf, Told, told, value, toldOf, featureOf, parametersOf}

@@ -6,15 +6,15 @@ use lib.ListN.{replicate}
 use Rattle.octets.specs.Parts.{zerosB, over}
 use Rattle.rules.specs.Fields.{baseB, zoneB, dstB, sourceB, statusB, bitsB}
 use Rattle.table.specs.Table.{sizeB, startB, emptyB, fieldsB, headB, slots, ring, rowB, soundB}
-use Rattle.table_write.specs.Writing.{fresh}
+use Rattle.table_write.specs.Start.{fresh}
 use Rattle.clock.specs.Answers.{numberOf}
 use Rattle.clock.specs.State.{newReader}
 use Rattle.clock.specs.Obeys.{clockB, timeB}
 use Rattle.clock.specs.Obeys as clock
 use Rattle.clock.specs.Events.{withBase}
 use Rattle.clock.specs.declared.state.Clock.{Clock}
-use Rattle.rows.specs.Outcome.{doneB, answered}
-use Rattle.rows.specs.Rows.{runningB, wholeB, firstFailed, tableRows}
+use Rattle.rows.specs.Reply.{doneB, answered}
+use Rattle.rows.specs.Rows.{runningWholeB, wholeB, firstFailed, tableRows}
 use Rattle.characteristics.specs.Value.{deviceTimeBytes, deviceTimeOf, toldOf, featureOf, parametersOf}
 
 -- the paper's number, how many bytes, the output after
@@ -54,7 +54,7 @@ table =
 
 -- `deviceTimeOf` of a case with all that it cites laid open, for the checker to compute
 unfoldable pub got : Case → Read
-unfolding deviceTimeOf deviceTimeBytes answered doneB numberOf firstFailed tableRows wholeB runningB clockB timeB clock.runningB baseB zoneB dstB sourceB statusB bitsB soundB headB sizeB startB emptyB fieldsB slots ring rowB zerosB over fresh newReader withBase
+unfolding deviceTimeOf deviceTimeBytes answered doneB numberOf firstFailed tableRows wholeB runningWholeB clockB timeB clock.runningB baseB zoneB dstB sourceB statusB bitsB soundB headB sizeB startB emptyB fieldsB slots ring rowB zerosB over fresh newReader withBase
 got k =
     let u = deviceTimeOf (k .clock) (k .table) (room (k .room)) in
     read (numberOf (u .reply .answer)) (u .reply .len) (u .output)

@@ -4,7 +4,7 @@ use mathlib.Core.Bool.{false}
 use mathlib.Core.List.{List}
 use Prim.Native.Nat.{ℕ}
 use Rattle.clock.specs.declared.state.Clock.{Clock}
-use Rattle.rows.specs.Outcome.{doneB}
+use Rattle.rows.specs.Reply.{doneB}
 use Rattle.update.specs.Theorems.{Untouched}
 use Rattle.characteristics.specs.Value.{deviceTimeOf, featureOf, parametersOf}
 

@@ -11,7 +11,7 @@ use Rattle.table.specs.Table.{next}
 use Rattle.clock.specs.declared.answers.Answer.{Answer}
 use Rattle.clock.specs.declared.answers.Answer.the-variants.{Done, OutputShort}
 use Rattle.clock.specs.declared.state.Clock.{Clock}
-use Rattle.rows.specs.Outcome.{Outcome, doneB, refused, answered}
+use Rattle.rows.specs.Reply.{Outcome, doneB, refused, answered}
 use Rattle.rows.specs.Rows.{leastOutput, firstFailed, tableRows}
 use Rattle.characteristics.specs.declared.value.Value.{Value}
 

@@ -11,7 +11,7 @@ use rows::rows::LEAST_OUTPUT;
 use rows::rows::table_rows;
 use table_look::look::next_number;
 ghost use mathlib.Core.Path.{_≡_};
-ghost use Rattle.rows.specs.Outcome.{outcome};
+ghost use Rattle.rows.specs.Reply.{outcome};
 ghost use Rattle.characteristics.specs.Value.{deviceTimeBytes, deviceTimeOf, told, toldOf, featureOf, parametersOf};
 
 // Table 3.2: E2E_CRC, 0xFFFF where the feature is not supported; DT_Features, of which bit 1 (time change

@@ -14,7 +14,7 @@ use Rattle.octets.proofs.Tests.{both-reads}
 use Rattle.record.specs.declared.kinds.Record.{Record}
 use Rattle.record.specs.declared.kinds.Reading.{Reading}
 use Rattle.table.specs.Table.{soundB}
-use Rattle.table_write.specs.Writing.{appendOf}
+use Rattle.table_write.specs.Append.{appendOf}
 use Rattle.clock.specs.declared.answers.Answer.{Answer}
 use Rattle.clock.specs.declared.state.Clock.{Clock}
 use Rattle.clock.specs.declared.state.Left.{Left}
@@ -22,7 +22,7 @@ use Rattle.clock.specs.declared.state.Left.the-variants.{Nothing, From}
 use Rattle.clock.specs.declared.state.Report.{Report}
 use Rattle.clock.specs.declared.state.Running.{Running}
 use Rattle.clock.specs.declared.state.Running.the-variants.{Idle, Reporting}
-use Rattle.rows.specs.Outcome.{doneB}
+use Rattle.rows.specs.Reply.{doneB}
 use Rattle.rows.specs.Rows.{firstFailed}
 use Rattle.rows.proofs.RowLaws.{table-done}
 use Rattle.update.specs.Start.{newReaderOf}

@@ -10,7 +10,7 @@ use Rattle.record.specs.declared.kinds.Record.{Record}
 use Rattle.record.specs.declared.kinds.Reading.{Reading}
 use Rattle.record.specs.declared.kinds.Reading.the-variants.{Is, Refused}
 use Rattle.table.specs.Table.{soundB}
-use Rattle.table_write.specs.Writing.{appendOf}
+use Rattle.table_write.specs.Append.{appendOf}
 use Rattle.clock.specs.declared.state.Clock.{Clock}
 use Rattle.update.specs.Start.{newReaderOf}
 use Rattle.racp_access.specs.Access.{accessOf}

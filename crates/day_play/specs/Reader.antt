@@ -11,7 +11,7 @@ use Rattle.table.specs.Table.{next, soundB}
 use Rattle.clock.specs.Events.{secondsOf, switchesOf, disconnectOf}
 use Rattle.clock.specs.declared.state.Clock.{Clock}
 use Rattle.codes.specs.Dtcp.{proposeOpcode}
-use Rattle.rows.specs.Outcome.{Outcome}
+use Rattle.rows.specs.Reply.{Outcome}
 use Rattle.rows.specs.Rows.{leastOutput}
 use Rattle.update.specs.Start.{newReaderOf}
 use Rattle.update.specs.Fault.{faultOf}

@@ -8,10 +8,11 @@ use Rattle.rules.specs.Fields.{baseB, zoneB, dstB, sourceB, statusB, bitsB}
 use Rattle.filter.specs.Filter.{matchesB}
 use Rattle.text.specs.Line.{digitsUpTo, decimal}
 use Rattle.record.specs.Fields.{sequenceOf}
-use Rattle.record_write.specs.Layout.{updateBytes, faultBytes, bytesOf, updateAt, faultAt, recordOf, sizedB, shapeB}
+use Rattle.record_write.specs.Layout.{updateBytes, faultBytes, bytesOf, updateRead, faultRead, recordOf, sizedB, shapeB}
 use Rattle.record_read.specs.Reading.{updateB, faultB, recordB, wellFormedB, readOf}
 use Rattle.table.specs.Table.{sizeB, startB, emptyB, fieldsB, headB, slot, bytesIn, recordIn, slots, ring, held, slotB, rowB, soundB, steps}
-use Rattle.table_write.specs.Writing.{fresh, startOf, placeOf, slotOf, headerAfter, appendOf}
+use Rattle.table_write.specs.Start.{fresh, startOf}
+use Rattle.table_write.specs.Append.{placeOf, slotOf, headerAfter, appendOf}
 use Rattle.table_look.specs.Matching.{firstFrom, nextMatch, matchingFrom, matching}
 use Rattle.clock.specs.Answers.{numberOf}
 use Rattle.clock.specs.Events.{unlessBroken, withBase, disconnected, secondsOf, switchesOf, disconnectOf}
@@ -19,13 +20,13 @@ use Rattle.clock.specs.Obeys.{opcodeB, filterB, counterB, reportB, clockB, time
 use Rattle.clock.specs.Obeys as clocks
 use Rattle.clock.specs.State.{newReader}
 use Rattle.update_decide.specs.Accept.{statusAfter, alignedAfter, accuracyOf, acceptedOf, loggedB, updateRecord}
-use Rattle.update_decide.specs.Decide.{judged, operandOf, decideOf}
+use Rattle.update_decide.specs.Decide.{judged, updateOperand, decideOf}
 use Rattle.update_judge.specs.Grades.{clockGrade, localB, gradeOf}
 use Rattle.update_judge.specs.Grounds.{epochB, rangeB, lowerB, secondsApart, unrealisticB, flagIf, groundsOf}
 use Rattle.update_judge.specs.Proposal.{proposalAt}
 use Rattle.update_decide.specs.Response.{responseBytes}
 use Rattle.update.specs.Fault.{countAfter, faultRecord, faultedOf, endingOf, faultOf}
-use Rattle.rows.specs.Outcome.{doneB, answered}
+use Rattle.rows.specs.Reply.{doneB, answered}
 use Rattle.rows.specs.Rows.{firstFailed, leftB, wholeB, tableRows, writeRows}
 use Rattle.rows.specs.Rows as rows
 use Rattle.update.specs.Start.{newReaderOf}
@@ -53,12 +54,12 @@ use Rattle.loading_day.specs.Page.{linesOf, eveningOf, sheetOf}
 
 -- the ramp in the evening
 unfoldable pub theRamp : Ramp
-unfolding playedOf theDay openedOf steppedOf livedOf startedOf proposalBytes withClock setOf failedOf readers.readOf newReaderOf startOf fresh newReader secondsOf withBase switchesOf disconnectOf disconnected unlessBroken faultOf faultedOf faultRecord countAfter endingOf updateOf updateRows firstFailed tableRows writeRows wholeB rows.runningB leftB doneB numberOf clockB timeB clocks.runningB reportB opcodeB filterB counterB baseB zoneB dstB sourceB statusB bitsB soundB headB sizeB startB emptyB fieldsB zerosB slot bytesIn recordIn slots ring held slotB rowB wellFormedB shapeB sizedB recordB updateB faultB recordOf updateAt faultAt sequenceOf matchesB decideOf operandOf judged proposalAt groundsOf flagIf epochB rangeB lowerB unrealisticB secondsApart gradeOf localB clockGrade effectOf afterDecision acceptedOf statusAfter alignedAfter accuracyOf tableAfter loggedB updateRecord appendOf steps placeOf slotOf headerAfter bytesOf updateBytes faultBytes responseBytes answered over
+unfolding playedOf theDay openedOf steppedOf livedOf startedOf proposalBytes withClock setOf failedOf readers.readOf newReaderOf startOf fresh newReader secondsOf withBase switchesOf disconnectOf disconnected unlessBroken faultOf faultedOf faultRecord countAfter endingOf updateOf updateRows firstFailed tableRows writeRows wholeB rows.runningWholeB leftB doneB numberOf clockB timeB clocks.runningB reportB opcodeB filterB counterB baseB zoneB dstB sourceB statusB bitsB soundB headB sizeB startB emptyB fieldsB zerosB slot bytesIn recordIn slots ring held slotB rowB wellFormedB shapeB sizedB recordB updateB faultB recordOf updateRead faultRead sequenceOf matchesB decideOf updateOperand judged proposalAt groundsOf flagIf epochB rangeB lowerB unrealisticB secondsApart gradeOf localB clockGrade effectOf afterDecision acceptedOf statusAfter alignedAfter accuracyOf tableAfter loggedB updateRecord appendOf steps placeOf slotOf headerAfter bytesOf updateBytes faultBytes responseBytes answered over
 theRamp = playedOf openedOf theDay
 
 -- the text of its sheet
 unfoldable pub theSheet : List ℕ
-unfolding theRamp sheetOf eveningOf linesOf theTags fetchedOf finishedOf reportOf heardAll heardOf keptIn loggedIn sightOf evenings.askedOf accessOf accessRows accessed begunOf abortedOf accessedOf requestOf askedOf abortOf requests.operandOf operandBytes typedB filterAt codeOf codeBytes countBytes firstNumber leftAt leftFrom firstFrom nextMatch matchingFrom matching notifyOf notifyRows roomB headerOf segmentOf leftAfter closingOf saidOf noticed runningNotice reports.firstBytes emptyJoining rangesB filledB placedB followsB standing takesB ground takenOf joinOf readJoinedOf readOf carryOf carriedFrom carriedOver movedBy laterOf carries.carryingNumber tagLine pairText apartText gap shownText carriedOf outcomeOf signedOf notedOf timeOfDay twoDigits decimal digitsUpTo
+unfolding theRamp sheetOf eveningOf linesOf theTags fetchedOf finishedOf reportOf heardAll heardOf keptIn loggedIn sightOf evenings.askedOf accessOf accessRows accessed begunOf abortedOf accessedOf requestOf askedOf abortOf requests.filterOperand operandBytes typedB filterAt codeOf codeBytes countBytes firstNumber leftAt leftFrom firstFrom nextMatch matchingFrom matching notifyOf notifyRows roomB headerOf segmentOf leftAfter closingOf saidOf noticed runningNotice reports.firstBytes emptyJoining rangesB filledB placedB followsB standing takesB ground takenOf joinOf readJoinedOf readOf carryOf carriedFrom carriedOver movedBy laterOf carries.carryingNumber tagLine pairText apartText gap shownText carriedOf outcomeOf signedOf notedOf timeOfDay twoDigits decimal digitsUpTo
 theSheet = eveningOf theTags theRamp
 
 -- a text's lines in a row

@@ -9,7 +9,7 @@ use lib.Dec.{leb}
 use lib.ListN.{length, length-take}
 use Rattle.clock.specs.Obeys.{clockB}
 use Rattle.clock.specs.declared.state.Clock.{Clock}
-use Rattle.rows.specs.Outcome.{Outcome, doneB, answered}
+use Rattle.rows.specs.Reply.{Outcome, doneB, answered}
 use Rattle.rows.specs.Rows.{firstFailed}
 use Rattle.rows.proofs.ReplyLaws.{brokenOf, Replies, broken-refused, rows-broken}
 use Rattle.racp_request.specs.Request.{opcodeIn, requestOf}

@@ -25,8 +25,8 @@ use Rattle.clock.specs.declared.state.Running.{Running}
 use Rattle.clock.specs.declared.state.Running.the-variants.{Idle, Reporting}
 use Rattle.clock.specs.Obeys as rules
 use Rattle.clock.proofs.RuleLaws.{clock-reads, running-reads}
-use Rattle.rows.specs.Outcome.{doneB}
-use Rattle.rows.specs.Rows.{row, firstFailed, thenOf, leftB, runningB, idleB, tableRows}
+use Rattle.rows.specs.Reply.{doneB}
+use Rattle.rows.specs.Rows.{row, firstFailed, thenOf, leftB, runningWholeB, idleB, tableRows}
 use Rattle.rows.proofs.RowLaws.{rows-append, table-refuse, TableRows, whole-reads}
 use Rattle.racp_access.specs.Report.{report, firstBytes}
 use Rattle.racp_notify.specs.Notify.{Notice, roomB, notifyRows, counterAfter, segmentOf, leftAfter, saidOf, notice, unsaid, noticed, runningNotice, notifyOf}
@@ -121,7 +121,7 @@ pub record Ready (t : List ℕ) (p o : ℕ) (r : Report) : Type 0 where
   pub left : leftB t (r .filter) (r .left) ≡ true
 
 pub ready : (c : Clock) (t : List ℕ) (p o : ℕ) (r : Report) → c .running ≡ Reporting r → TableRows c t (roomB p o) → Ready t p o r
-unfolding roomB runningB
+unfolding roomB runningWholeB
 ready c t p o r e h =
     let x = both-reads (both (leb 20 p) (leb p 244)) (leb p o) (h .output) in
     let y = both-reads (leb 20 p) (leb p 244) (x .0) in
@@ -133,5 +133,5 @@ ready c t p o r e h =
       high = leb-true p 244 (y .1);
       fits = leb-true p o (x .1);
       counter = k .counter;
-      left = ap (runningB t) (sym e) ∙ w .1;
+      left = ap (runningWholeB t) (sym e) ∙ w .1;
     }

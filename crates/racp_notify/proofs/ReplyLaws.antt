@@ -16,7 +16,7 @@ use Rattle.clock.specs.declared.state.Left.the-variants.{Nothing, From}
 use Rattle.clock.specs.declared.state.Report.{Report}
 use Rattle.clock.specs.declared.state.Running.{Running}
 use Rattle.clock.specs.declared.state.Running.the-variants.{Idle, Reporting}
-use Rattle.rows.specs.Outcome.{doneB}
+use Rattle.rows.specs.Reply.{doneB}
 use Rattle.rows.proofs.ReplyLaws.{brokenOf, Replies, broken-refused, rows-broken}
 use Rattle.rows.proofs.RowLaws.{table-all}
 use Rattle.codes.specs.Racp.{reportOpcode, combinedOpcode, combinedResponse}

@@ -19,7 +19,7 @@ use Rattle.clock.specs.declared.state.Left.the-variants.{Nothing, From}
 use Rattle.clock.specs.declared.state.Report.{Report}
 use Rattle.clock.specs.declared.state.Running.{Running}
 use Rattle.clock.specs.declared.state.Running.the-variants.{Idle, Reporting}
-use Rattle.rows.specs.Outcome.{doneB}
+use Rattle.rows.specs.Reply.{doneB}
 use Rattle.rows.specs.Rows.{Row, row, firstFailed, idleB, tableRows}
 use Rattle.codes.specs.Racp.{reportOpcode, combinedOpcode, combinedResponse}
 use Rattle.codes.specs.Response.{codeBytes, countBytes}

@@ -7,7 +7,7 @@ use Prim.Native.Nat.{ℕ}
 use Rattle.filter.specs.declared.filter.Filter.the-variants.{All, AtMost, AtLeast, Range, First, Last}
 use Rattle.clock.specs.Obeys.{filterB}
 use Rattle.codes.specs.Response.{codeOf, codeBytes}
-use Rattle.racp_request.specs.Request.{opcodeIn, operandBytes, typedB, filterAt, operandOf, askedOf, abortOf, requestOf}
+use Rattle.racp_request.specs.Request.{opcodeIn, operandBytes, typedB, filterAt, filterOperand, askedOf, abortOf, requestOf}
 use Rattle.racp_request.specs.declared.request.Request.{Request}
 use Rattle.racp_request.specs.declared.request.Request.the-variants.{Report, Number, Abort, Refused}
 
@@ -29,7 +29,7 @@ refused w b = record { write = w; outcome = answers b }
 
 -- `requestOf` with all that it cites laid open, for the checker to compute
 unfoldable pub requested : List ℕ → Request
-unfolding requestOf askedOf abortOf operandOf filterAt typedB operandBytes filterB
+unfolding requestOf askedOf abortOf filterOperand filterAt typedB operandBytes filterB
 requested w = requestOf w
 
 unfoldable pub done : ℕ → Request → Outcome

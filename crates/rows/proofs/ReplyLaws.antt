@@ -12,7 +12,7 @@ use Rattle.clock.specs.Obeys.{clockB}
 use Rattle.clock.specs.declared.answers.Answer.{Answer}
 use Rattle.clock.specs.declared.answers.Answer.the-variants.{TableNotSound, ClockBroken}
 use Rattle.clock.specs.declared.state.Clock.{Clock}
-use Rattle.rows.specs.Outcome.{doneB}
+use Rattle.rows.specs.Reply.{doneB}
 use Rattle.rows.specs.Rows.{Row, firstFailed, tableRows}
 use Rattle.rows.proofs.RowLaws.{row-holds, row-fails, whole-alone}
 

@@ -20,8 +20,8 @@ use Rattle.clock.specs.declared.answers.Answer.{Answer}
 use Rattle.clock.specs.declared.answers.Answer.the-variants.{Done, TableNotSound, ClockBroken, OutputShort, WriteLength, SwitchedOff, ReportRunning}
 use Rattle.clock.specs.declared.state.Clock.{Clock}
 use Rattle.clock.specs.declared.state.Left.the-variants.{From}
-use Rattle.rows.specs.Outcome.{doneB}
-use Rattle.rows.specs.Rows.{Row, row, firstFailed, thenOf, unsentB, leftB, runningB, wholeB, tableRows, writeRows}
+use Rattle.rows.specs.Reply.{doneB}
+use Rattle.rows.specs.Rows.{Row, row, firstFailed, thenOf, unsentB, leftB, runningWholeB, wholeB, tableRows, writeRows}
 
 -- each refusal is one
 not-sound : doneB TableNotSound ≡ false
@@ -146,13 +146,13 @@ pub whole-alone : (c : Clock) (t : List ℕ) → clockB c ≡ false → wholeB c
 unfolding wholeB
 whole-alone c t h = both-no _ _ h
 
-pub whole-with : (c : Clock) (t : List ℕ) → clockB c ≡ true → wholeB c t ≡ runningB t (c .running)
+pub whole-with : (c : Clock) (t : List ℕ) → clockB c ≡ true → wholeB c t ≡ runningWholeB t (c .running)
 unfolding wholeB
 whole-with c t h = both-yes h
 
-pub whole-reads : (c : Clock) (t : List ℕ) → wholeB c t ≡ true → (clockB c ≡ true) × (runningB t (c .running) ≡ true)
+pub whole-reads : (c : Clock) (t : List ℕ) → wholeB c t ≡ true → (clockB c ≡ true) × (runningWholeB t (c .running) ≡ true)
 unfolding wholeB
-whole-reads c t h = both-reads (clockB c) (runningB t (c .running)) h
+whole-reads c t h = both-reads (clockB c) (runningWholeB t (c .running)) h
 
 module _ (n : ℕ) (on free : Bool) where
   pub write-none : n < 1 → firstFailed (writeRows n on free) ≡ WriteLength

@@ -18,7 +18,7 @@ use Rattle.clock.specs.declared.state.Left.{Left}
 use Rattle.clock.specs.declared.state.Left.the-variants.{Nothing, From}
 use Rattle.clock.specs.declared.state.Running.{Running}
 use Rattle.clock.specs.declared.state.Running.the-variants.{Idle, Reporting}
-use Rattle.rows.specs.Outcome.{doneB}
+use Rattle.rows.specs.Reply.{doneB}
 
 -- a row: what must hold, and the refusal where it does not
 pub record Row : Type 0 where
@@ -50,13 +50,13 @@ leftB t f (From number sent) =
     (both (matchesB f (count t) (ageOf t number) number)
     (unsentB sent (drop (ageOf t number) (held t))))
 
-unfoldable pub runningB : List ℕ → Running → Bool
-runningB t Idle = true
-runningB t (Reporting r) = leftB t (r .filter) (r .left)
+unfoldable pub runningWholeB : List ℕ → Running → Bool
+runningWholeB t Idle = true
+runningWholeB t (Reporting r) = leftB t (r .filter) (r .left)
 
 -- row 2 whole: the clock alone, and its report with the table
 unfoldable pub wholeB : Clock → List ℕ → Bool
-wholeB c t = both (clockB c) (runningB t (c .running))
+wholeB c t = both (clockB c) (runningWholeB t (c .running))
 
 abbrev pub idleB : Running → Bool
 idleB Idle = true

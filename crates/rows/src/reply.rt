@@ -3,7 +3,7 @@
 use clock::answers::Answer;
 use clock::state::Clock;
 ghost use mathlib.Core.Path.{_≡_};
-ghost use Rattle.rows.specs.Outcome.{doneB};
+ghost use Rattle.rows.specs.Reply.{doneB};
 
 pub struct Reply {
     pub answer: Answer,

@@ -5,14 +5,14 @@ use clock::state::Running;
 use filter::filter::Filter;
 use filter::filter::matches;
 use octets::choice::both;
-use record_write::writing::length_of;
+use record_write::layout::length_of;
 use table_look::look::age_of;
 use table_look::look::held_count;
 use table_look::look::record_at;
 ghost use mathlib.Core.Path.{_≡_};
 ghost use mathlib.Core.Bool.{true};
 ghost use Rattle.table.specs.Table.{soundB};
-ghost use Rattle.rows.specs.Rows.{leftB, runningB};
+ghost use Rattle.rows.specs.Rows.{leftB, runningWholeB};
 
 // The next record "is held, matches and has bytes unsent".
 fn left_ok(t: &[u8], f: Filter, left: Left) -> bool
@@ -36,7 +36,7 @@ fn left_ok(t: &[u8], f: Filter, left: Left) -> bool
 // The running report's part of row 2 that needs the table.
 pub(crate) fn running_ok(t: &[u8], running: Running) -> bool
     requires { ⌜ soundB (now t) ≡ true ⌝ }
-    ensures { λ r. ⌜ r ≡ runningB (now (t .entry)) running ⌝ }
+    ensures { λ r. ⌜ r ≡ runningWholeB (now (t .entry)) running ⌝ }
 {
     match running {
         Running::Idle => true,

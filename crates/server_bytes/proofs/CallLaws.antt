@@ -14,14 +14,14 @@ use Rattle.clock.specs.declared.answers.Answer.{Answer}
 use Rattle.clock.specs.declared.answers.Answer.the-variants.{ClockBroken}
 use Rattle.clock.specs.declared.events.Event.{Event}
 use Rattle.clock.specs.declared.state.Clock.{Clock}
-use Rattle.rows.specs.Outcome.{Outcome, outcome, doneB}
+use Rattle.rows.specs.Reply.{Outcome, outcome, doneB}
 use Rattle.rows.specs.declared.reply.Reply.{Reply}
 use Rattle.rows.proofs.ReplyLaws.{Replies, obeyed, broken-refused}
 use Rattle.racp_notify.specs.Notify.{Notice, notice}
 use Rattle.racp_notify.specs.declared.notify.Notified.{Notified}
 use Rattle.state_bytes.specs.State.{stateBytes, clockOf}
 use Rattle.state_bytes.proofs.StateLaws.{obeys-size}
-use Rattle.server_bytes.specs.Results.{writtenOf, replyOf, Ran, ran, settledOf}
+use Rattle.server_bytes.specs.Results.{closingLength, replyOf, Ran, ran, settledOf}
 use Rattle.server_bytes.specs.Events.{eventful}
 use Rattle.server_bytes.specs.Calls.{called, replied, notified}
 
@@ -33,7 +33,7 @@ clock-refused : doneB ClockBroken ≡ false
 unfolding doneB numberOf
 clock-refused = refl
 
-written-short : (closes : Bool) (n : ℕ) → n ≤ 255 → writtenOf closes n ≤ 511
+written-short : (closes : Bool) (n : ℕ) → n ≤ 255 → closingLength closes n ≤ 511
 written-short true n h = omega arith
 written-short false n h = omega arith
 

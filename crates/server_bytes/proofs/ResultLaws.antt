@@ -12,7 +12,7 @@ use mir.Facts.{toZ-pos}
 use Rattle.clock.specs.Answers.{numberOf}
 use Rattle.clock.specs.declared.answers.Answer.{Answer}
 use Rattle.clock.specs.declared.state.Clock.{Clock}
-use Rattle.rows.specs.Outcome.{doneB}
+use Rattle.rows.specs.Reply.{doneB}
 use Rattle.carry.proofs.IntLaws.{mag-difference}
 use Rattle.state_bytes.specs.State.{imageOf}
 use Rattle.state_bytes.specs.Results.{refusal}

@@ -2,13 +2,13 @@
 use mathlib.Core.List.{List}
 use Prim.Native.Nat.{ℕ}
 use lib.IntN.{ℤ}
-use Rattle.rows.specs.Outcome.{Outcome}
+use Rattle.rows.specs.Reply.{Outcome}
 use Rattle.update.specs.Fault.{faultOf}
 use Rattle.update.specs.TimeUpdate.{updateOf}
 use Rattle.racp_access.specs.Access.{accessOf}
 use Rattle.racp_notify.specs.Notify.{Notice, notifyOf}
 use Rattle.state_bytes.specs.State.{clockOf}
-use Rattle.server_bytes.specs.Results.{resultOf, stateAfter, writtenOf}
+use Rattle.server_bytes.specs.Results.{resultOf, stateAfter, closingLength}
 
 -- the whole outcome: the result, and the bytes of state, table and output after it
 pub record Called : Type 0 where
@@ -40,7 +40,7 @@ racpAt s t w o = replied s (accessOf (clockOf s) t w o)
 -- a notification by value; the table is only read
 abbrev pub notified : List ℕ → List ℕ → Notice → Called
 notified s t n =
-    called (resultOf (n .reply .answer) (writtenOf (n .reply .closes) (n .reply .len)))
+    called (resultOf (n .reply .answer) (closingLength (n .reply .closes) (n .reply .len)))
     (stateAfter s (n .reply .answer) (n .reply .clock))
     t
     (n .output)

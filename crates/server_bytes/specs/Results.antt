@@ -7,7 +7,7 @@ use Rattle.octets.specs.Choice.{pick}
 use Rattle.clock.specs.Answers.{numberOf}
 use Rattle.clock.specs.declared.answers.Answer.{Answer}
 use Rattle.clock.specs.declared.state.Clock.{Clock}
-use Rattle.rows.specs.Outcome.{doneB, reply}
+use Rattle.rows.specs.Reply.{doneB, reply}
 use Rattle.rows.specs.declared.reply.Reply.{Reply}
 use Rattle.racp_notify.specs.declared.notify.Notified.{Notified}
 use Rattle.state_bytes.specs.Results.{refusal}
@@ -22,13 +22,13 @@ unfoldable pub stateAfter : List ℕ → Answer → Clock → List ℕ
 stateAfter s a c = pick (doneB a) (imageOf c) s
 
 -- "+ 256 where these bytes close the report"
-abbrev pub writtenOf : Bool → ℕ → ℕ
-writtenOf true n = 256 + n
-writtenOf false n = n
+abbrev pub closingLength : Bool → ℕ → ℕ
+closingLength true n = 256 + n
+closingLength false n = n
 
 -- what a notification says, as a reply
 unfoldable pub replyOf : Notified → Reply
-replyOf n = reply (n .answer) (n .clock) (writtenOf (n .closes) (n .len))
+replyOf n = reply (n .answer) (n .clock) (closingLength (n .closes) (n .len))
 
 -- the outcome of an entry point that is lent the state alone
 pub record Ran : Type 0 where

@@ -2,7 +2,7 @@
 use mathlib.Core.List.{List}
 use Prim.Native.Nat.{ℕ}
 use lib.IntN.{ℤ}
-use Rattle.rows.specs.Outcome.{Outcome}
+use Rattle.rows.specs.Reply.{Outcome}
 use Rattle.characteristics.specs.Value.{Told, deviceTimeOf, featureOf, parametersOf}
 use Rattle.state_bytes.specs.State.{clockOf}
 use Rattle.server_bytes.specs.Results.{resultOf}
@@ -15,11 +15,11 @@ pub record Shown : Type 0 where
 abbrev pub shown : ℤ → List ℕ → Shown
 shown z o = record { result = z; output = o }
 
-abbrev pub answered : Outcome → Shown
-answered u = shown (resultOf (u .reply .answer) (u .reply .len)) (u .output)
+abbrev pub answeredBytes : Outcome → Shown
+answeredBytes u = shown (resultOf (u .reply .answer) (u .reply .len)) (u .output)
 
 unfoldable pub deviceTimeAt : List ℕ → List ℕ → List ℕ → Shown
-deviceTimeAt s t o = answered (deviceTimeOf (clockOf s) t o)
+deviceTimeAt s t o = answeredBytes (deviceTimeOf (clockOf s) t o)
 
 abbrev pub telling : Told → Shown
 telling u = shown (resultOf (u .value .answer) (u .value .len)) (u .output)

@@ -11,7 +11,7 @@ ghost use mathlib.Core.Path.{_≡_};
 ghost use mathlib.Core.Bool.{true};
 ghost use Prim.Native.Nat.{_≤_};
 ghost use lib.ListN.{length};
-ghost use Rattle.rows.specs.Outcome.{doneB};
+ghost use Rattle.rows.specs.Reply.{doneB};
 ghost use Rattle.state_bytes.specs.State.{stateBytes};
 ghost use Rattle.server_bytes.specs.Results.{resultOf, replyOf, ran, settledOf};
 

@@ -18,7 +18,7 @@ use Rattle.filter.specs.declared.filter.Filter.{Filter}
 use Rattle.filter.specs.declared.filter.Filter.the-variants.{All, AtMost, AtLeast, Range, First, Last}
 use Rattle.record.specs.Fields.{sequenceOf}
 use Rattle.record.specs.declared.kinds.Record.the-variants.{TimeUpdate, TimeFault}
-use Rattle.record_write.specs.Layout.{updateAt, faultAt, recordOf}
+use Rattle.record_write.specs.Layout.{updateRead, faultRead, recordOf}
 use Rattle.table.specs.Table.{count, oldest, held, ageOf, slot, bytesIn, recordIn, steps}
 use Rattle.table_look.specs.Matching.{nextMatch}
 use Rattle.table_look.specs.declared.matching.Found.{Found}
@@ -37,7 +37,7 @@ use Rattle.clock.specs.declared.state.Running.the-variants.{Idle, Reporting}
 use Rattle.clock.proofs.RuleLaws.{clock-reads}
 use Rattle.clock.proofs.EventLaws.{Seconds, refuses-2, refuses-7, rises, Changed, changes, seconds-is, switches-is, disconnect-is}
 use Rattle.update_decide.specs.Accept.{acceptedOf}
-use Rattle.rows.specs.Outcome.{doneB}
+use Rattle.rows.specs.Reply.{doneB}
 use Rattle.rows.specs.Rows.{firstFailed}
 use Rattle.update.specs.Start.{newReaderOf}
 use Rattle.update.specs.Fault.{faultedOf, faultOf}
@@ -45,7 +45,7 @@ use Rattle.update.specs.Theorems.{successB}
 use Rattle.update.specs.TimeUpdate.{updateOf}
 use Rattle.update.proofs.PromiseLaws.{logged, refused-unchanged}
 use Rattle.theorems_reports.proofs.GoodLaws.{new-good}
-use Rattle.racp_request.specs.Request.{opcodeIn, operatorIn, operandBytes, typedB, filterAt, operandOf, askedOf, requestOf}
+use Rattle.racp_request.specs.Request.{opcodeIn, operatorIn, operandBytes, typedB, filterAt, filterOperand, askedOf, requestOf}
 use Rattle.codes.specs.declared.response.Code.the-variants.{InvalidOperator, OperatorNotSupported, InvalidOperand, OperandNotSupported}
 use Rattle.racp_request.specs.declared.request.Asked.{Asked}
 use Rattle.racp_request.specs.declared.request.Asked.the-variants as asked
@@ -64,10 +64,10 @@ use Rattle.theorems_bytes.specs.Fitting.{WritesBytes, AllWriteBytes, Fit
 
 -- a record's number in a table of bytes
 record-small : (b : List ℕ) → Bytes b → sequenceOf (recordOf b) < 65536
-unfolding sequenceOf recordOf updateAt faultAt
+unfolding sequenceOf recordOf updateRead faultRead
 record-small b h = go (eqb (at b 2) 1)
   where
-    go : (x : Bool) → sequenceOf (pick x (TimeUpdate (updateAt b)) (TimeFault (faultAt b))) < 65536
+    go : (x : Bool) → sequenceOf (pick x (TimeUpdate (updateRead b)) (TimeFault (faultRead b))) < 65536
     go true = le16-small b 0 h
     go false = le16-small b 0 h
 
@@ -114,7 +114,7 @@ AskedFits (asked.For f) = FilterFits f
 AskedFits (asked.Refused k) = Unit {0}
 
 asked-fits : (w : List ℕ) → Bytes w → AskedFits (askedOf w)
-unfolding askedOf operandOf
+unfolding askedOf filterOperand
 asked-fits w h =
     go (ltb (length w) 2)
     (eqb (operatorIn w) 0)

@@ -13,7 +13,7 @@ use Rattle.octets.specs.Choice.{pick}
 use Rattle.octets.proofs.Tests.{clash}
 use Rattle.table.specs.Table.{sizeB}
 use Rattle.table.proofs.HeadLaws.{size-reads, sound-head}
-use Rattle.table_write.specs.Writing.{startOf}
+use Rattle.table_write.specs.Start.{startOf}
 use Rattle.clock.specs.Answers.{numberOf}
 use Rattle.clock.specs.Events.{secondsOf, switchesOf, disconnectOf}
 use Rattle.clock.specs.Theorems as clocks
@@ -21,7 +21,7 @@ use Rattle.clock.specs.declared.answers.Answer.{Answer}
 use Rattle.clock.specs.declared.events.Event.{Event}
 use Rattle.clock.specs.declared.state.Clock.{Clock}
 use Rattle.clock.proofs.PromiseLaws as clockLaws
-use Rattle.rows.specs.Outcome.{Outcome, doneB}
+use Rattle.rows.specs.Reply.{Outcome, doneB}
 use Rattle.update.specs.Fault.{faultOf}
 use Rattle.update.specs.Theorems.{Untouched}
 use Rattle.update.specs.Start.{newReaderOf}
@@ -35,7 +35,7 @@ use Rattle.theorems_calls.proofs.AnswerLaws as transfer
 use Rattle.state_bytes.specs.State.{stateBytes, imageOf, imageB}
 use Rattle.state_bytes.specs.Theorems.{Fits}
 use Rattle.state_bytes.proofs.RoundTrip.{state-images}
-use Rattle.server_bytes.specs.Results.{resultOf, stateAfter, writtenOf, settledOf}
+use Rattle.server_bytes.specs.Results.{resultOf, stateAfter, closingLength, settledOf}
 use Rattle.server_bytes.specs.Start.{startAt}
 use Rattle.server_bytes.specs.Events.{eventful, onB}
 use Rattle.server_bytes.specs.Calls.{Called, called, replied, notified}
@@ -77,9 +77,9 @@ reply-is c t o u h =
 
 notice-is : (c : Clock) (t o : List ℕ) (n : Notice) → Silent c o n
     → notified (imageOf c) t n
-    ≡ called (resultOf (n .reply .answer) (writtenOf (n .reply .closes) (n .reply .len))) (imageOf (n .reply .clock)) t (n .output)
+    ≡ called (resultOf (n .reply .answer) (closingLength (n .reply .closes) (n .reply .len))) (imageOf (n .reply .clock)) t (n .output)
 notice-is c t o n h =
-    ap (λ (s : List ℕ). called (resultOf (n .reply .answer) (writtenOf (n .reply .closes) (n .reply .len))) s t (n .output))
+    ap (λ (s : List ℕ). called (resultOf (n .reply .answer) (closingLength (n .reply .closes) (n .reply .len))) s t (n .output))
     (state-is c (n .reply .clock) (n .reply .answer) (λ r. ap (λ (x : Notice). x .reply .clock) (h r)))
 
 pub one-call : (v : World) (k : ByteCall) → Good v → Fits (v .clock) → calledAt (imageIn v) k ≡ calledOf v k

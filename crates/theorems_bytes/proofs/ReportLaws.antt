@@ -22,7 +22,7 @@ use Rattle.table_look.specs.Matching.{matching}
 use Rattle.clock.specs.Answers.{numberOf}
 use Rattle.clock.specs.declared.answers.Answer.{Answer}
 use Rattle.clock.specs.declared.answers.Answer.the-variants.{Done, TableNotSound, ClockBroken, OutputShort, WriteLength, SwitchedOff, ReportRunning, PastTheEnd, NothingRunning}
-use Rattle.rows.specs.Outcome.{doneB}
+use Rattle.rows.specs.Reply.{doneB}
 use Rattle.racp_access.specs.Access.{accessOf}
 use Rattle.racp_notify.specs.Notify.{Notice, notifyOf}
 use Rattle.record.specs.Fields.{mostBytes}
@@ -34,7 +34,7 @@ use Rattle.theorems_calls.proofs.JoinedLaws.{keeps-ranges}
 use Rattle.state_bytes.specs.JoiningState.{joiningBytes, joiningImage}
 use Rattle.state_bytes.proofs.JoiningLaws.{joining-images}
 use Rattle.state_bytes.specs.Results.{refusal}
-use Rattle.server_bytes.specs.Results.{resultOf, writtenOf}
+use Rattle.server_bytes.specs.Results.{resultOf, closingLength}
 use Rattle.server_bytes.specs.Calls.{Called}
 use Rattle.tablet_bytes.specs.Calls.{JoinedBytes, joinResult, ReadNumbers, reading, numbersAfter, readAt}
 use Rattle.racp_notify.proofs.ReplyLaws.{notify-replies}
@@ -69,12 +69,12 @@ segment-back : (n : ℕ) (o : List ℕ) → n ≤ 255 → heardFrom (pos n) o �
 segment-back n o h = let k : n < 256 = omega arith in rw (lt-ltb n 256 k)
 
 notice-heard : (n : Notice) → n .reply .len ≤ 255
-    → heardFrom (resultOf (n .reply .answer) (writtenOf (n .reply .closes) (n .reply .len))) (n .output) ≡ heardIn n
+    → heardFrom (resultOf (n .reply .answer) (closingLength (n .reply .closes) (n .reply .len))) (n .output) ≡ heardIn n
 unfolding heardIn resultOf
 notice-heard n h = go (doneB (n .reply .answer)) refl (n .reply .closes)
   where
     go : (b : Bool) → doneB (n .reply .answer) ≡ b → (c : Bool)
-        → heardFrom (pick b (pos (writtenOf c (n .reply .len))) (refusal (numberOf (n .reply .answer)))) (n .output)
+        → heardFrom (pick b (pos (closingLength c (n .reply .len))) (refusal (numberOf (n .reply .answer)))) (n .output)
         ≡ pick b (pick c (closing (sentIn n)) (segment (sentIn n))) nothing
     go true e true = closing-back (n .reply .len) (n .output)
     go true e false = segment-back (n .reply .len) (n .output) h

@@ -26,7 +26,7 @@ use Rattle.clock.specs.declared.state.Clock.{Clock}
 use Rattle.update_decide.specs.Accept.{updateRecord}
 use Rattle.codes.specs.Dtcp.{success}
 use Rattle.update_judge.specs.Proposal.{proposalAt}
-use Rattle.rows.specs.Outcome.{doneB, answered}
+use Rattle.rows.specs.Reply.{doneB, answered}
 use Rattle.rows.specs.Rows.{firstFailed, tableRows}
 use Rattle.rows.proofs.RowLaws.{table-0, whole-with}
 use Rattle.update.specs.Fault.{faultRecord, faultOf}
@@ -204,7 +204,7 @@ module _ (v : World) (o : List ℕ) (f : Fit v) (room : 20 ≤ length o) where
   unfolding answered deviceTimeBytes resultOf doneB numberOf
   time-is =
       composes .device-time (v .clock) (f .fits) (f .good .clock) (v .table) o
-      ∙ ap values.answered (device-time-done (v .clock) (v .table) o rows-pass)
+      ∙ ap values.answeredBytes (device-time-done (v .clock) (v .table) o rows-pass)
 
   base-is : baseRead (imageIn v) o ≡ v .clock .time .base
   base-is = ap (λ (x : Shown). le32 (x .output) 0) time-is ∙ base-back (v .clock) (next (v .table)) o (f .fits .base)

@@ -9,9 +9,9 @@ use Rattle.update.specs.TimeUpdate.{updateOf}
 use Rattle.characteristics.specs.Value.{deviceTimeOf}
 use Rattle.racp_access.specs.Access.{accessOf}
 use Rattle.racp_notify.specs.Notify.{Notice, notifyOf}
-use Rattle.rows.specs.Outcome.{Outcome}
+use Rattle.rows.specs.Reply.{Outcome}
 use Rattle.state_bytes.specs.State.{imageOf}
-use Rattle.server_bytes.specs.Results.{resultOf, writtenOf, Ran}
+use Rattle.server_bytes.specs.Results.{resultOf, closingLength, Ran}
 use Rattle.server_bytes.specs.Start.{startAt}
 use Rattle.server_bytes.specs.Events.{onB, secondsAt, switchesAt, disconnectAt}
 use Rattle.server_bytes.specs.Calls.{Called, called, faultAt, dtcpAt, racpAt, notifyAt}
@@ -92,7 +92,7 @@ abbrev pub saidBy : Outcome → Said
 saidBy u = said (resultOf (u .reply .answer) (u .reply .len)) (u .output)
 
 abbrev pub noticeBy : Notice → Said
-noticeBy n = said (resultOf (n .reply .answer) (writtenOf (n .reply .closes) (n .reply .len))) (n .output)
+noticeBy n = said (resultOf (n .reply .answer) (closingLength (n .reply .closes) (n .reply .len))) (n .output)
 
 unfoldable pub saidOf : World → ByteCall → Said
 saidOf v (seconds n) = said (resultOf (secondsOf (v .clock) n .answer) 0) []

@@ -21,12 +21,12 @@ use Rattle.clock.specs.declared.state.Left.{Left}
 use Rattle.clock.specs.declared.state.Left.the-variants.{Nothing, From}
 use Rattle.clock.specs.declared.state.Running.{Running}
 use Rattle.clock.specs.declared.state.Running.the-variants.{Idle, Reporting}
-use Rattle.rows.specs.Outcome.{Outcome, doneB, refused, answered}
+use Rattle.rows.specs.Reply.{Outcome, doneB, refused, answered}
 use Rattle.rows.specs.Rows.{firstFailed}
 use Rattle.update.specs.Theorems.{Untouched}
 use Rattle.codes.specs.Response.{codeOf, codeBytes, countBytes}
 use Rattle.codes.specs.Racp.{reportOpcode, abortOpcode, numberOpcode, combinedOpcode, numberResponse}
-use Rattle.racp_request.specs.Request.{opcodeIn, operatorIn, operandBytes, typedB, filterAt, operandOf, askedOf, abortOf, reportFor, numberFor, requestOf}
+use Rattle.racp_request.specs.Request.{opcodeIn, operatorIn, operandBytes, typedB, filterAt, filterOperand, askedOf, abortOf, reportFor, numberFor, requestOf}
 use Rattle.codes.specs.declared.response.Code.{Code}
 use Rattle.codes.specs.declared.response.Code.the-variants.{OpcodeNotSupported, InvalidOperator, OperatorNotSupported, InvalidOperand, NoRecordsFound, OperandNotSupported}
 use Rattle.racp_request.specs.declared.request.Asked.{Asked}
@@ -111,7 +111,7 @@ Other Abort = other InvalidOperand ≡ false
 Other (Refused k) = other k ≡ false
 
 asked-other : (w : List ℕ) → AskedOther (askedOf w)
-unfolding askedOf operandOf codeOf
+unfolding askedOf filterOperand codeOf
 asked-other w = go (ltb (length w) 2) (eqb (operatorIn w) 0) (ltb 6 (operatorIn w)) (eqb (length w) (2 + operandBytes (operatorIn w))) (typedB w) (filterB (filterAt w))
   where
     go : (none null high size typed ok : Bool)

@@ -32,8 +32,8 @@ use Rattle.clock.specs.declared.state.Running.{Running}
 use Rattle.clock.specs.declared.state.Running.the-variants.{Idle, Reporting}
 use Rattle.clock.proofs.RuleLaws.{clock-reads, running-reads, running-makes}
 use Rattle.clock.proofs.EventLaws.{with-running-obeys}
-use Rattle.rows.specs.Outcome.{doneB, answered}
-use Rattle.rows.specs.Rows.{firstFailed, unsentB, leftB, runningB, wholeB}
+use Rattle.rows.specs.Reply.{doneB, answered}
+use Rattle.rows.specs.Rows.{firstFailed, unsentB, leftB, runningWholeB, wholeB}
 use Rattle.rows.proofs.RowLaws.{whole-reads, whole-with}
 use Rattle.racp_request.specs.Request.{opcodeIn, requestOf}
 use Rattle.racp_request.specs.declared.request.Request.{Request}
@@ -104,16 +104,16 @@ after-obeys f t q n sent sd u = go (lastB q sent (nextBytes t n)) refl
         })
 
 -- a clock with another report
-running-obeys : (c : Clock) (t : List ℕ) (r : Running) → clockB c ≡ true → rules.runningB r ≡ true → runningB t r ≡ true → wholeB (withRunning c r) t ≡ true
+running-obeys : (c : Clock) (t : List ℕ) (r : Running) → clockB c ≡ true → rules.runningB r ≡ true → runningWholeB t r ≡ true → wholeB (withRunning c r) t ≡ true
 running-obeys c t r ok alone with = whole-with (withRunning c r) t (with-running-obeys c r ok alone) ∙ with
 
 idle-obeys : (c : Clock) (t : List ℕ) → clockB c ≡ true → wholeB (withRunning c Idle) t ≡ true
-unfolding rules.runningB runningB
+unfolding rules.runningB runningWholeB
 idle-obeys c t ok = running-obeys c t Idle ok refl refl
 
 report-obeys : (c : Clock) (t : List ℕ) (r : Report) → clockB c ≡ true → rules.ReportRules r → leftB t (r .filter) (r .left) ≡ true
     → wholeB (withRunning c (Reporting r)) t ≡ true
-unfolding runningB
+unfolding runningWholeB
 report-obeys c t r ok k l = running-obeys c t (Reporting r) ok (running-makes r k) l
 
 -- notifications
@@ -128,14 +128,14 @@ said-obeys c t q r sd ok k (From n sent) h =
 
 running-said : (c : Clock) (t : List ℕ) (p : ℕ) (o : List ℕ) → soundB t ≡ true → wholeB c t ≡ true → (r : Running) → c .running ≡ r
     → wholeB (runningNotice c t p o r .reply .clock) t ≡ true
-unfolding runningNotice noticed runningB
+unfolding runningNotice noticed runningWholeB
 running-said c t p o sd w Idle e = w
 running-said c t p o sd w (Reporting r) e =
     let x = whole-reads c t w in
     said-obeys c t (p - 1) r sd (x .0)
     (running-reads r (ap rules.runningB (sym e) ∙ clock-reads c (x .0) .running))
     (r .left)
-    (ap (runningB t) (sym e) ∙ x .1)
+    (ap (runningWholeB t) (sym e) ∙ x .1)
 
 notify-obeys : (c : Clock) (t : List ℕ) (p : ℕ) (o : List ℕ) → soundB t ≡ true → wholeB c t ≡ true → wholeB (notifyOf c t p o .reply .clock) t ≡ true
 unfolding notifyOf

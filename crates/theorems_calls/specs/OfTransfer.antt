@@ -15,7 +15,7 @@ use Rattle.clock.specs.State.{withRunning}
 use Rattle.clock.specs.declared.state.Clock.{Clock}
 use Rattle.clock.specs.declared.state.Left.the-variants.{From}
 use Rattle.clock.specs.declared.state.Running.the-variants.{Reporting}
-use Rattle.rows.specs.Outcome.{Outcome, doneB, answered}
+use Rattle.rows.specs.Reply.{Outcome, doneB, answered}
 use Rattle.rows.specs.Rows.{firstFailed, wholeB}
 use Rattle.update.specs.Theorems.{Untouched}
 use Rattle.codes.specs.Response.{codeOf, codeBytes, countBytes}

@@ -6,7 +6,7 @@ use Prim.Native.Nat.{ℕ, _-_}
 use lib.ListN.{length, replicate}
 use Rattle.octets.specs.Parts.{over, zerosB}
 use Rattle.rules.specs.Fields.{baseB, zoneB, dstB, sourceB, statusB, bitsB}
-use Rattle.record_write.specs.Layout.{updateAt, faultAt, recordOf, sizedB, shapeB}
+use Rattle.record_write.specs.Layout.{updateRead, faultRead, recordOf, sizedB, shapeB}
 use Rattle.record_read.specs.Reading.{updateB, faultB, recordB, wellFormedB, readOf, readingNumber as readingNumber}
 use Rattle.record.specs.Fields.{mostBytes}
 use Rattle.joining.specs.Joining.{empty, whole, inside, joining, blank, emptyJoining, rangesB, filledB, placedB, followsB, standing, takesB, ground, takenOf, joinOf, joiningNumber, joinedIn}
@@ -121,7 +121,7 @@ abbrev pub reading : List ℕ → ℕ → Read
 reading b n = record { bytes = b; number = n }
 
 unfoldable pub gotRead : Read → ℕ
-unfolding readJoinedOf readOf wellFormedB shapeB sizedB zerosB recordOf updateAt faultAt recordB updateB faultB baseB zoneB dstB sourceB statusB bitsB
+unfolding readJoinedOf readOf wellFormedB shapeB sizedB zerosB recordOf updateRead faultRead recordB updateB faultB baseB zoneB dstB sourceB statusB bitsB
 gotRead k = readingNumber (readJoinedOf (holding whole 0 (k .bytes)))
 
 unfoldable pub expectedRead : Read → ℕ

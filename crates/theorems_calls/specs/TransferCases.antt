@@ -11,14 +11,15 @@ use Rattle.filter.specs.Filter.{matchesB}
 use Rattle.filter.specs.declared.filter.Filter.{Filter}
 use Rattle.filter.specs.declared.filter.Filter.the-variants.{All, AtLeast, First, Last}
 use Rattle.record.specs.Fields.{sequenceOf}
-use Rattle.record_write.specs.Layout.{updateBytes, faultBytes, bytesOf, updateAt, faultAt, recordOf, sizedB, shapeB}
+use Rattle.record_write.specs.Layout.{updateBytes, faultBytes, bytesOf, updateRead, faultRead, recordOf, sizedB, shapeB}
 use Rattle.record_read.specs.Reading.{updateB, faultB, recordB, wellFormedB}
 use Rattle.record.specs.declared.kinds.Record.{Record}
 use Rattle.record.specs.declared.kinds.Record.the-variants.{TimeUpdate, TimeFault}
 use Rattle.table.specs.Table.{sizeB, startB, emptyB, fieldsB, headB, slot, recordIn, slots, ring, held, slotB, rowB, soundB, steps}
 use Rattle.table.specs.Table as log
 use Rattle.table_look.specs.Matching.{matchingFrom, matching, firstFrom, nextMatch}
-use Rattle.table_write.specs.Writing.{fresh, placeOf, slotOf, headerAfter, appendOf, logAll}
+use Rattle.table_write.specs.Start.{fresh}
+use Rattle.table_write.specs.Append.{placeOf, slotOf, headerAfter, appendOf, logAll}
 use Rattle.clock.specs.Events.{onOff}
 use Rattle.clock.specs.State.{withRunning}
 use Rattle.clock.specs.Answers.{numberOf}
@@ -31,10 +32,10 @@ use Rattle.clock.specs.declared.state.Left.{Left}
 use Rattle.clock.specs.declared.state.Left.the-variants.{Nothing, From}
 use Rattle.clock.specs.declared.state.Running.{Running}
 use Rattle.clock.specs.declared.state.Running.the-variants.{Idle, Reporting}
-use Rattle.rows.specs.Outcome.{Outcome, outcome, reply, doneB, refused, answered}
-use Rattle.rows.specs.Rows.{firstFailed, leftB, runningB, wholeB, tableRows, writeRows}
+use Rattle.rows.specs.Reply.{Outcome, outcome, reply, doneB, refused, answered}
+use Rattle.rows.specs.Rows.{firstFailed, leftB, runningWholeB, wholeB, tableRows, writeRows}
 use Rattle.codes.specs.Response.{codeOf, codeBytes, countBytes}
-use Rattle.racp_request.specs.Request.{operandBytes, typedB, filterAt, operandOf, askedOf, abortOf, requestOf}
+use Rattle.racp_request.specs.Request.{operandBytes, typedB, filterAt, filterOperand, askedOf, abortOf, requestOf}
 use Rattle.racp_access.specs.Report.{report, firstNumber, firstBytes, leftAt, leftFrom}
 use Rattle.racp_access.specs.Access.{accessRows, accessed, begunOf, abortedOf, accessedOf, accessOf}
 use Rattle.racp_notify.specs.Notify.{Notice, notice, unsaid, roomB, notifyRows, headerOf, segmentOf, leftAfter, closingOf, saidOf, noticed, runningNotice, notifyOf}
@@ -154,15 +155,15 @@ denies c t w a = record { clock = c; table = t; write = w; outcome = refused a c
 
 -- what soundness cites laid open, for the checker to compute; `notified` and `accessDone` open the rest
 unfoldable pub soundOpen : List ℕ → Bool
-unfolding soundB headB sizeB fieldsB startB emptyB rowB slotB slot ring slots log.bytesIn recordIn recordOf updateAt faultAt wellFormedB shapeB sizedB zerosB recordB updateB faultB baseB zoneB dstB sourceB statusB bitsB sequenceOf
+unfolding soundB headB sizeB fieldsB startB emptyB rowB slotB slot ring slots log.bytesIn recordIn recordOf updateRead faultRead wellFormedB shapeB sizedB zerosB recordB updateB faultB baseB zoneB dstB sourceB statusB bitsB sequenceOf
 soundOpen t = soundB t
 
 unfoldable pub notified : Asking → Notice
-unfolding notifyOf notifyRows tableRows firstFailed doneB numberOf roomB wholeB runningB leftB clockB timeB rules.runningB reportB opcodeB filterB counterB matchesB soundOpen held runningNotice noticed saidOf leftAfter leftFrom leftAt nextMatch firstFrom firstNumber firstBytes bytesOf updateBytes faultBytes segmentOf headerOf closingOf matching matchingFrom countBytes codeBytes codeOf over
+unfolding notifyOf notifyRows tableRows firstFailed doneB numberOf roomB wholeB runningWholeB leftB clockB timeB rules.runningB reportB opcodeB filterB counterB matchesB soundOpen held runningNotice noticed saidOf leftAfter leftFrom leftAt nextMatch firstFrom firstNumber firstBytes bytesOf updateBytes faultBytes segmentOf headerOf closingOf matching matchingFrom countBytes codeBytes codeOf over
 notified k = notifyOf (k .clock) (k .table) (k .payload) (lent (k .room))
 
 unfoldable pub accessDone : Writing → Outcome
-unfolding accessOf accessRows tableRows writeRows firstFailed doneB numberOf wholeB runningB leftB clockB timeB rules.runningB reportB opcodeB filterB counterB matchesB soundOpen held answered accessedOf accessed begunOf abortedOf leftFrom leftAt nextMatch firstFrom firstNumber matching matchingFrom countBytes codeBytes codeOf requestOf askedOf abortOf operandOf filterAt typedB operandBytes over
+unfolding accessOf accessRows tableRows writeRows firstFailed doneB numberOf wholeB runningWholeB leftB clockB timeB rules.runningB reportB opcodeB filterB counterB matchesB soundOpen held answered accessedOf accessed begunOf abortedOf leftFrom leftAt nextMatch firstFrom firstNumber matching matchingFrom countBytes codeBytes codeOf requestOf askedOf abortOf filterOperand filterAt typedB operandBytes over
 accessDone k = accessOf (k .clock) (k .table) (k .write) (lent 20)
 
 -- the tables laid open

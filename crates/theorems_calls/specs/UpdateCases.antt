@@ -13,7 +13,7 @@ use Rattle.clock.specs.declared.state.Running.the-variants.{Idle}
 use Rattle.update_judge.specs.Proposal.{proposalAt}
 use Rattle.update_judge.specs.Grades.{clockGrade, localB, gradeOf}
 use Rattle.update_judge.specs.Grounds.{epochB, rangeB, lowerB, secondsApart, unrealisticB, flagIf, groundsOf}
-use Rattle.update_decide.specs.Decide.{judged, operandOf, decideOf}
+use Rattle.update_decide.specs.Decide.{judged, updateOperand, decideOf}
 use Rattle.update_decide.specs.Accept.{statusAfter, alignedAfter, accuracyOf, acceptedOf, updateRecord}
 use Rattle.update_decide.specs.Response.{responseBytes}
 use Rattle.update_decide.specs.declared.decide.Decision.{Decision}
@@ -41,7 +41,7 @@ taken c w r after n logged =
 
 -- `decideOf` with all that it cites laid open, for the checker to compute
 unfoldable pub decided : Clock → List ℕ → Decision
-unfolding decideOf operandOf judged proposalAt groundsOf flagIf epochB rangeB lowerB unrealisticB secondsApart gradeOf localB clockGrade baseB zoneB dstB sourceB
+unfolding decideOf updateOperand judged proposalAt groundsOf flagIf epochB rangeB lowerB unrealisticB secondsApart gradeOf localB clockGrade baseB zoneB dstB sourceB
 decided c w = decideOf c w
 
 -- what a decision does

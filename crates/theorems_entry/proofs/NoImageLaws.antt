@@ -15,7 +15,7 @@ use Rattle.clock.specs.declared.answers.Answer.the-variants.{TableNotSound, Clo
 use Rattle.clock.specs.declared.events.Event.{Event}
 use Rattle.clock.specs.declared.state.Clock.{Clock}
 use Rattle.clock.proofs.EventLaws.{seconds-2, switches-2, disconnect-2}
-use Rattle.rows.specs.Outcome.{doneB}
+use Rattle.rows.specs.Reply.{doneB}
 use Rattle.rows.proofs.ReplyLaws.{brokenOf}
 use Rattle.update.specs.Fault.{faultOf}
 use Rattle.update.specs.TimeUpdate.{updateOf}
@@ -33,7 +33,7 @@ use Rattle.server_bytes.specs.Results.{resultOf, stateAfter, ran, settledOf}
 use Rattle.server_bytes.specs.Start.{startAt}
 use Rattle.server_bytes.specs.Events.{eventful, onB, secondsAt, switchesAt, disconnectAt}
 use Rattle.server_bytes.specs.Calls.{Called, called, replied, notified, faultAt, dtcpAt, racpAt, notifyAt}
-use Rattle.server_bytes.specs.ValuesRead.{shown, answered, deviceTimeAt}
+use Rattle.server_bytes.specs.ValuesRead.{shown, answeredBytes, deviceTimeAt}
 use Rattle.theorems_entry.specs.Theorems.{unlessNoImage, noImage, unread, NoImage}
 use Rattle.theorems_entry.proofs.PromiseLaws.{unchanged}
 
@@ -100,6 +100,6 @@ no-images =
           over s (unread s t o) (λ (c : Clock). notified s t (notifyOf c t p o))
           (λ h. called-none s t o (unchanged .notify s t p o (number t) (below t _ (notify-replies t p o .broken (clockOf s) h))));
       device-time = λ s t o.
-          over s (shown (noImage t) o) (λ (c : Clock). answered (deviceTimeOf c t o))
+          over s (shown (noImage t) o) (λ (c : Clock). answeredBytes (deviceTimeOf c t o))
           (λ h. let e = below t _ (device-time-replies t o .broken (clockOf s) h) in shown-none t o e (unchanged .device-time s t o (number t) e));
     }

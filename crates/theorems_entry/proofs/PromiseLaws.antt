@@ -16,7 +16,7 @@ use Rattle.record.specs.declared.kinds.Reading.{Reading}
 use Rattle.record.specs.declared.kinds.Reading.the-variants.{Is}
 use Rattle.record.specs.declared.kinds.Reading.the-variants as readings
 use Rattle.table.specs.Table.{sizeB, slotsIn}
-use Rattle.table_write.specs.Writing.{fresh, startOf}
+use Rattle.table_write.specs.Start.{fresh, startOf}
 use Rattle.clock.specs.Answers.{numberOf, attErrorOf}
 use Rattle.clock.specs.State.{newReader}
 use Rattle.clock.specs.Events.{secondsOf, switchesOf, disconnectOf}
@@ -25,7 +25,7 @@ use Rattle.clock.specs.declared.answers.Answer.{Answer}
 use Rattle.clock.specs.declared.answers.Answer.the-variants.{Done, TableNotSound, ClockBroken, OutputShort, WriteLength, SwitchedOff, ReportRunning, PastTheEnd, NothingRunning}
 use Rattle.clock.specs.declared.events.Event.{Event}
 use Rattle.clock.specs.declared.state.Clock.{Clock}
-use Rattle.rows.specs.Outcome.{Outcome, doneB}
+use Rattle.rows.specs.Reply.{Outcome, doneB}
 use Rattle.update.specs.Fault.{faultOf}
 use Rattle.update.specs.Theorems.{Untouched}
 use Rattle.update.specs.Start.{begun, newReaderOf}
@@ -58,7 +58,7 @@ use Rattle.server_bytes.specs.Results.{resultOf, stateAfter, Ran, ran, settledO
 use Rattle.server_bytes.specs.Start.{StartedBytes, startedBytes, shortOf, begunAt, startAt}
 use Rattle.server_bytes.specs.Events.{eventful, onB, secondsAt, switchesAt, disconnectAt}
 use Rattle.server_bytes.specs.Calls.{Called, called, replied, notified, faultAt, dtcpAt, racpAt, notifyAt}
-use Rattle.server_bytes.specs.ValuesRead.{answered, deviceTimeAt, featureAt, parametersAt}
+use Rattle.server_bytes.specs.ValuesRead.{answeredBytes, deviceTimeAt, featureAt, parametersAt}
 use Rattle.tablet_bytes.specs.Calls.{JoinedBytes, joinResult, joined, joinedBytes, joinAt, readAt, numbersAfter, carryAt, stampAfter}
 use Rattle.firmware.specs.Errors.{attErrorAt}
 use Rattle.theorems_entry.specs.Theorems.{RefusedUnchanged, Composes, Errors}
@@ -126,7 +126,7 @@ module _ (s t : List ℕ) (n : ℕ) where
       go false = λ h. ap (λ (z : ℤ). startedBytes z s t) h
 
 -- reading a value
-answered-below : (c : Clock) (t o : List ℕ) (n : ℕ) (u : Outcome) → Untouched c t o u → answered u .result ≡ negsuc n → answered u .output ≡ o
+answered-below : (c : Clock) (t o : List ℕ) (n : ℕ) (u : Outcome) → Untouched c t o u → answeredBytes u .result ≡ negsuc n → answeredBytes u .output ≡ o
 answered-below c t o n u same h = ap (λ (x : Outcome). x .output) (same (below (u .reply .answer) (u .reply .len) n h))
 
 -- joining
@@ -204,7 +204,7 @@ composes =
       dtcp-write = λ c h ok t w o. over-image c h ok (λ (k : Clock). replied (imageOf c) (updateOf k t w o));
       racp-write = λ c h ok t w o. over-image c h ok (λ (k : Clock). replied (imageOf c) (accessOf k t w o));
       notify = λ c h ok t p o. over-image c h ok (λ (k : Clock). notified (imageOf c) t (notifyOf k t p o));
-      device-time = λ c h ok t o. over-image c h ok (λ (k : Clock). answered (deviceTimeOf k t o));
+      device-time = λ c h ok t o. over-image c h ok (λ (k : Clock). answeredBytes (deviceTimeOf k t o));
       join = join-over;
     }
 

@@ -9,19 +9,20 @@ use Rattle.octets.specs.Parts.{part, zerosB, sameB, over}
 use Rattle.rules.specs.Fields.{baseB, zoneB, dstB, sourceB, statusB, bitsB}
 use Rattle.record_write.specs.Layout.{updateBytes, bytesOf}
 use Rattle.table.specs.Table.{sizeB, startB, emptyB, fieldsB, headB, slots, ring, rowB, soundB, steps}
-use Rattle.table_write.specs.Writing.{fresh, startOf, placeOf, slotOf, headerAfter, appendOf}
+use Rattle.table_write.specs.Start.{fresh, startOf}
+use Rattle.table_write.specs.Append.{placeOf, slotOf, headerAfter, appendOf}
 use Rattle.clock.specs.Answers.{numberOf}
 use Rattle.clock.specs.Events.{unlessBroken, switchesOf}
 use Rattle.clock.specs.Obeys.{clockB, timeB}
 use Rattle.clock.specs.Obeys as clocks
 use Rattle.clock.specs.State.{newReader}
 use Rattle.update_decide.specs.Accept.{statusAfter, alignedAfter, accuracyOf, acceptedOf, loggedB, updateRecord}
-use Rattle.update_decide.specs.Decide.{judged, operandOf, decideOf}
+use Rattle.update_decide.specs.Decide.{judged, updateOperand, decideOf}
 use Rattle.update_judge.specs.Grades.{clockGrade, localB, gradeOf}
 use Rattle.update_judge.specs.Grounds.{epochB, rangeB, lowerB, secondsApart, unrealisticB, flagIf, groundsOf}
 use Rattle.update_judge.specs.Proposal.{proposalAt}
 use Rattle.update_decide.specs.Response.{responseBytes}
-use Rattle.rows.specs.Outcome.{doneB, answered}
+use Rattle.rows.specs.Reply.{doneB, answered}
 use Rattle.rows.specs.Rows.{firstFailed, wholeB, tableRows, writeRows}
 use Rattle.rows.specs.Rows as rows
 use Rattle.update.specs.Start.{newReaderOf}
@@ -52,7 +53,7 @@ abbrev pub propose : List ℕ
 propose = 0x02 ∷ 0x43 ∷ 0x00 ∷ 0x00 ∷ 0x08 ∷ 0xaf ∷ 0x2f ∷ 0x04 ∷ 0x00 ∷ 0x02 ∷ 0x01 ∷ []
 
 unfoldable pub written : Called
-unfolding start switches dtcpAt updateOf updateRows effectOf afterDecision tableAfter answered firstFailed tableRows writeRows wholeB rows.runningB soundB headB sizeB startB emptyB fieldsB slots ring rowB zerosB decideOf operandOf judged proposalAt groundsOf flagIf epochB rangeB lowerB unrealisticB secondsApart gradeOf localB clockGrade acceptedOf statusAfter alignedAfter accuracyOf loggedB updateRecord responseBytes appendOf steps placeOf slotOf headerAfter bytesOf updateBytes over imageB sameB clockIn runningIn clockB timeB clocks.runningB baseB zoneB dstB sourceB statusB bitsB resultOf stateAfter doneB numberOf imageOf switchesIn fieldsOf fieldBytes clockOf
+unfolding start switches dtcpAt updateOf updateRows effectOf afterDecision tableAfter answered firstFailed tableRows writeRows wholeB rows.runningWholeB soundB headB sizeB startB emptyB fieldsB slots ring rowB zerosB decideOf updateOperand judged proposalAt groundsOf flagIf epochB rangeB lowerB unrealisticB secondsApart gradeOf localB clockGrade acceptedOf statusAfter alignedAfter accuracyOf loggedB updateRecord responseBytes appendOf steps placeOf slotOf headerAfter bytesOf updateBytes over imageB sameB clockIn runningIn clockB timeB clocks.runningB baseB zoneB dstB sourceB statusB bitsB resultOf stateAfter doneB numberOf imageOf switchesIn fieldsOf fieldBytes clockOf
 written = dtcpAt (switches .state) (start .table) propose (filled 20)
 
 pub record Computed : Type 0 where

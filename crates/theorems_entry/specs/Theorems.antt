@@ -30,7 +30,7 @@ use Rattle.server_bytes.specs.Results.{ran}
 use Rattle.server_bytes.specs.Start.{startedBytes, shortOf, begunAt, startAt}
 use Rattle.server_bytes.specs.Events.{eventful, onB, secondsAt, switchesAt, disconnectAt}
 use Rattle.server_bytes.specs.Calls.{Called, called, replied, notified, faultAt, dtcpAt, racpAt, notifyAt}
-use Rattle.server_bytes.specs.ValuesRead.{shown, answered, deviceTimeAt, featureAt, parametersAt}
+use Rattle.server_bytes.specs.ValuesRead.{shown, answeredBytes, deviceTimeAt, featureAt, parametersAt}
 use Rattle.tablet_bytes.specs.Calls.{joinedBytes, joinAt, readAt, carryAt}
 use Rattle.firmware.specs.Errors.{attErrorAt}
 
@@ -76,7 +76,7 @@ pub record NoImage : Type 0 where
   pub dtcp-write : (s t w o : List ℕ) → dtcpAt s t w o ≡ unlessNoImage s (unread s t o) (λ c. replied s (updateOf c t w o))
   pub racp-write : (s t w o : List ℕ) → racpAt s t w o ≡ unlessNoImage s (unread s t o) (λ c. replied s (accessOf c t w o))
   pub notify : (s t : List ℕ) (p : ℕ) (o : List ℕ) → notifyAt s t p o ≡ unlessNoImage s (unread s t o) (λ c. notified s t (notifyOf c t p o))
-  pub device-time : (s t o : List ℕ) → deviceTimeAt s t o ≡ unlessNoImage s (shown (noImage t) o) (λ c. answered (deviceTimeOf c t o))
+  pub device-time : (s t o : List ℕ) → deviceTimeAt s t o ≡ unlessNoImage s (shown (noImage t) o) (λ c. answeredBytes (deviceTimeOf c t o))
 
 -- Over the image of a clock that obeys its rules, with fields that fit their types, an entry point is the call by value, and the state
 -- becomes the image of its clock after; over a joining state's image likewise.
@@ -92,7 +92,7 @@ pub record Composes : Type 0 where
       → racpAt (imageOf c) t w o ≡ replied (imageOf c) (accessOf c t w o)
   pub notify : (c : Clock) → Fits c → clockB c ≡ true → (t : List ℕ) (p : ℕ) (o : List ℕ)
       → notifyAt (imageOf c) t p o ≡ notified (imageOf c) t (notifyOf c t p o)
-  pub device-time : (c : Clock) → Fits c → clockB c ≡ true → (t o : List ℕ) → deviceTimeAt (imageOf c) t o ≡ answered (deviceTimeOf c t o)
+  pub device-time : (c : Clock) → Fits c → clockB c ≡ true → (t o : List ℕ) → deviceTimeAt (imageOf c) t o ≡ answeredBytes (deviceTimeOf c t o)
   pub join : (j : Joining) → length (j .bytes) ≡ mostBytes → (n : List ℕ) → joinAt (joiningImage j) n ≡ joinedBytes (joinOf j n)
 
 -- `dts_att_error` of the paper's number for an answer is that answer's ATT error.

@@ -20,10 +20,10 @@ use Rattle.record.proofs.fields.base_of.Kinds as base-of-kinds
 use Rattle.record.proofs.fields.base_of.Reads as base-of-reads
 use Rattle.record.proofs.fields.old_base_of.Kinds as old-base-of-kinds
 use Rattle.record.proofs.fields.old_base_of.Reads as old-base-of-reads
-use Rattle.record_write.proofs.writing.write.Kinds as write-kinds
-use Rattle.record_write.proofs.writing.write.Reads as write-reads
-use Rattle.record_write.proofs.writing.length_of.Kinds as length-of-kinds
-use Rattle.record_write.proofs.writing.length_of.Reads as length-of-reads
+use Rattle.record_write.proofs.layout.write.Kinds as write-kinds
+use Rattle.record_write.proofs.layout.write.Reads as write-reads
+use Rattle.record_write.proofs.layout.length_of.Kinds as length-of-kinds
+use Rattle.record_write.proofs.layout.length_of.Reads as length-of-reads
 use Rattle.record_read.proofs.reading.record_of.Kinds as record-of-kinds
 use Rattle.record_read.proofs.reading.record_of.Reads as record-of-reads
 use Rattle.record_read.proofs.reading.read.Kinds as read-kinds

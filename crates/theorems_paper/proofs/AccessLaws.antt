@@ -5,7 +5,7 @@ use mathlib.Core.List.{List, [], _∷_}
 use Prim.Native.Nat.{ℕ}
 use Rattle.filter.specs.declared.filter.Filter.the-variants.{All, AtLeast}
 use Rattle.clock.specs.declared.state.Clock.{Clock}
-use Rattle.rows.specs.Outcome.{Outcome}
+use Rattle.rows.specs.Reply.{Outcome}
 use Rattle.racp_request.specs.Request.{opcodeIn, requestOf}
 use Rattle.racp_request.specs.declared.request.Request.{Request}
 use Rattle.racp_request.specs.declared.request.Request.the-variants.{Report, Number, Abort, Refused}

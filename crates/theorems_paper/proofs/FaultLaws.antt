@@ -12,7 +12,7 @@ use Rattle.clock.specs.declared.state.Clock.{Clock}
 use Rattle.clock.specs.declared.state.Report.{Report}
 use Rattle.clock.specs.declared.state.Running.the-variants.{Idle, Reporting}
 use Rattle.update.specs.Fault.{faultedOf, endingOf, faultOf}
-use Rattle.rows.specs.Outcome.{doneB, answered}
+use Rattle.rows.specs.Reply.{doneB, answered}
 use Rattle.rows.specs.Rows.{firstFailed, idleB, tableRows}
 use Rattle.theorems_paper.specs.Reader.{output, response, access, reporting}
 use Rattle.theorems_paper.proofs.ShutLaws.{differ, done-is}

@@ -13,7 +13,7 @@ use Rattle.clock.specs.Answers.{numberOf}
 use Rattle.clock.specs.declared.answers.Answer.{Answer}
 use Rattle.clock.specs.declared.answers.Answer.the-variants.{Done}
 use Rattle.clock.specs.declared.state.Clock.{Clock}
-use Rattle.rows.specs.Outcome.{doneB, refused, answered}
+use Rattle.rows.specs.Reply.{doneB, refused, answered}
 
 -- two byte strings with another byte at i
 pub differ : (i : ℕ) {x y : List ℕ} → x ≡ y → eqb (at x i) (at y i) ≡ false → ⊥

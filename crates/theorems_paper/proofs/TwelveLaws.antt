@@ -8,7 +8,7 @@ use borrow.Author.Tests.{le-leb, lt-ltb}
 use lib.ListN.{length, drop-of-length-le}
 use Rattle.record.specs.declared.kinds.Record.{Record}
 use Rattle.table.specs.Table.{next, held}
-use Rattle.table_write.specs.Writing.{newest}
+use Rattle.table_write.specs.Append.{newest}
 use Rattle.carry.specs.Stamp.{laterOf, carriedOver, carriedFrom, carryOf}
 use Rattle.theorems_paper.specs.Reader.{switchedOn, access, first, second}
 use Rattle.theorems_paper.specs.Twelve.{seen, last, ticked, carrying, cutIn, Case1, Case2, Case3, Case4, Case5, Case6, Case7, Case8, Case9, Case10, Case11, Case12, TwelveCases}

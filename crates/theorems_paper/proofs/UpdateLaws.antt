@@ -9,9 +9,9 @@ use Rattle.table.specs.Table.{next}
 use Rattle.clock.specs.declared.state.Clock.{Clock}
 use Rattle.update_decide.specs.Accept.{updateRecord}
 use Rattle.update_judge.specs.Proposal.{proposalAt}
-use Rattle.update_decide.specs.Decide.{decideOf, operandOf}
+use Rattle.update_decide.specs.Decide.{decideOf, updateOperand}
 use Rattle.update_judge.specs.Grounds.{groundsOf}
-use Rattle.rows.specs.Outcome.{doneB}
+use Rattle.rows.specs.Reply.{doneB}
 use Rattle.rows.specs.Rows.{firstFailed}
 use Rattle.update.specs.Theorems.{successB, LoggedOne}
 use Rattle.update.specs.TimeUpdate.{updateRows, afterDecision, effectOf, updateOf}
@@ -44,7 +44,7 @@ right =
     }
 
 parts : (c : Clock) (t w o : List ℕ) → updatingBy (decidingBy groundsOf) afterDecision c t w o ≡ updateOf c t w o
-unfolding updatingBy operandBy decidingBy updateOf effectOf decideOf operandOf
+unfolding updatingBy operandBy decidingBy updateOf effectOf decideOf updateOperand
 parts c t w o = refl
 
 rejects-every : AnswersRightly rejectsEvery → ⊥

@@ -7,7 +7,7 @@ use Rattle.octets.specs.Numbers.{bytes4}
 use Rattle.clock.specs.Events.{secondsOf, switchesOf}
 use Rattle.clock.specs.declared.events.Event.{Event}
 use Rattle.codes.specs.Dtcp.{proposeOpcode, forceOpcode}
-use Rattle.rows.specs.Outcome.{Outcome}
+use Rattle.rows.specs.Reply.{Outcome}
 use Rattle.update.specs.TimeUpdate.{updateOf}
 use Rattle.racp_access.specs.Access.{accessOf}
 use Rattle.racp_notify.specs.Notify.{Notice, notifyOf}

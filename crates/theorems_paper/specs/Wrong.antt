@@ -14,7 +14,7 @@ use Rattle.rules.specs.Fields.{alignedBit}
 use Rattle.filter.specs.declared.filter.Filter.{Filter}
 use Rattle.table_look.specs.Matching.{matching}
 use Rattle.table.specs.Table.{next}
-use Rattle.table_write.specs.Writing.{appendOf}
+use Rattle.table_write.specs.Append.{appendOf}
 use Rattle.clock.specs.State.{withRunning}
 use Rattle.clock.specs.declared.state.Clock.{Clock}
 use Rattle.clock.specs.declared.state.Time.{Time}
@@ -32,7 +32,7 @@ use Rattle.update_decide.specs.Response.{responseBytes}
 use Rattle.update_decide.specs.declared.decide.Decision.{Decision}
 use Rattle.update_decide.specs.declared.decide.Decision.the-variants.{Unsupported, WrongLength, Rejected, Taken}
 use Rattle.update_judge.specs.declared.proposal.Proposal.{Proposal}
-use Rattle.rows.specs.Outcome.{Outcome, doneB, refused, answered}
+use Rattle.rows.specs.Reply.{Outcome, doneB, refused, answered}
 use Rattle.update.specs.Theorems.{successB, LoggedOne}
 use Rattle.update.specs.Fault.{faultRecord, faultedOf, endingOf, faultOf}
 use Rattle.rows.specs.Rows.{firstFailed, tableRows}

@@ -11,7 +11,7 @@ use Rattle.octets.specs.Choice.{both, either}
 use Rattle.octets.specs.Parts.{over}
 use Rattle.clock.specs.declared.answers.Answer.{Answer}
 use Rattle.clock.specs.declared.state.Clock.{Clock}
-use Rattle.rows.specs.Outcome.{doneB, answered, Outcome}
+use Rattle.rows.specs.Reply.{doneB, answered, Outcome}
 use Rattle.rows.specs.Rows.{firstFailed, idleB, writeRows}
 use Rattle.rows.proofs.RowLaws.{TableRows, table-done, write-all}
 use Rattle.racp_request.specs.Request.{opcodeIn, requestOf}

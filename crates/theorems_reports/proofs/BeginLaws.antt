@@ -17,7 +17,7 @@ use Rattle.clock.specs.declared.state.Left.{Left}
 use Rattle.clock.specs.declared.state.Left.the-variants.{From}
 use Rattle.clock.proofs.RuleLaws.{running-makes}
 use Rattle.clock.proofs.EventLaws.{with-running-obeys}
-use Rattle.rows.specs.Outcome.{doneB}
+use Rattle.rows.specs.Reply.{doneB}
 use Rattle.rows.proofs.RowLaws.{whole-reads}
 use Rattle.codes.specs.Response.{codeBytes}
 use Rattle.racp_request.specs.Request.{opcodeIn, requestOf}

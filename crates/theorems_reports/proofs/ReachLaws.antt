@@ -23,7 +23,7 @@ use Rattle.clock.specs.declared.state.Running.{Running}
 use Rattle.clock.specs.declared.state.Running.the-variants.{Idle, Reporting}
 use Rattle.clock.proofs.RuleLaws.{clock-reads, running-reads, running-makes}
 use Rattle.clock.proofs.EventLaws.{with-running-obeys}
-use Rattle.rows.specs.Outcome.{doneB}
+use Rattle.rows.specs.Reply.{doneB}
 use Rattle.rows.specs.Rows.{firstFailed, unsentB, leftB}
 use Rattle.rows.specs.Rows as rows
 use Rattle.racp_request.specs.Request.{opcodeIn}
@@ -43,14 +43,14 @@ use Rattle.theorems_reports.specs.Reach.{Good, Reachable, ReachedReport}
 -- the clock and the table as they were, but for the report
 pub data Turned (v : World) : World → Type 0 where
   same : Turned v v
-  turns : (r : Running) → runningB r ≡ true → rows.runningB (v .table) r ≡ true → Turned v (world (withRunning (v .clock) r) (v .table))
+  turns : (r : Running) → runningB r ≡ true → rows.runningWholeB (v .table) r ≡ true → Turned v (world (withRunning (v .clock) r) (v .table))
 
 pub turned-good : {v w : World} → Good v → Turned v w → Good w
 turned-good g same = g
 turned-good {v} g (turns r ok left) = kept v (withRunning (v .clock) r) g (with-running-obeys (v .clock) r (g .clock) ok) left (g .faults)
 
 ended : (v : World) → Turned v (world (withRunning (v .clock) Idle) (v .table))
-unfolding runningB rows.runningB
+unfolding runningB rows.runningWholeB
 ended v = turns Idle refl refl
 
 -- a report that is found has its next record held, matching and unsent
@@ -60,7 +60,7 @@ found v g f k =
 
 begun : (v : World) (opcode : ℕ) (f : Filter) (l : Left) → opcodeB opcode ≡ true → filterB f ≡ true → leftB (v .table) f l ≡ true
     → Turned v (world (begunOf (v .clock) opcode f l .clock) (v .table))
-unfolding begunOf accessed rows.runningB
+unfolding begunOf accessed rows.runningWholeB
 begun v opcode f Nothing o h l = same
 begun v opcode f (From number sent) o h l =
     turns (Reporting (report opcode f 0 (From number sent)))
@@ -113,7 +113,7 @@ rest-left v g f q number sent h = go (lastB q sent (firstBytes (drop (ageOf (v .
 
 said-turned : (v : World) (q : ℕ) (r : Report) (l : Left) → Good v → runningB (Reporting r) ≡ true → leftB (v .table) (r .filter) l ≡ true
     → Turned v (world (saidOf (v .clock) (v .table) q r l .clock) (v .table))
-unfolding saidOf rows.runningB
+unfolding saidOf rows.runningWholeB
 said-turned v q r Nothing g ok h = ended v
 said-turned v q r (From number sent) g ok h =
     let k = running-reads r ok in
@@ -123,9 +123,9 @@ said-turned v q r (From number sent) g ok h =
     (running-makes on (record { opcode = k .opcode; filter = k .filter; counter = omega arith }))
     (rest-left v g (r .filter) q number sent h)
 
-notice-turned : (v : World) (p : ℕ) (o : List ℕ) (r : Running) → Good v → runningB r ≡ true → rows.runningB (v .table) r ≡ true
+notice-turned : (v : World) (p : ℕ) (o : List ℕ) (r : Running) → Good v → runningB r ≡ true → rows.runningWholeB (v .table) r ≡ true
     → Turned v (world (runningNotice (v .clock) (v .table) p o r .reply .clock) (v .table))
-unfolding runningNotice noticed rows.runningB
+unfolding runningNotice noticed rows.runningWholeB
 notice-turned v p o Idle g ok h = same
 notice-turned v p o (Reporting r) g ok h = said-turned v (p - 1) r (r .left) g ok h
 

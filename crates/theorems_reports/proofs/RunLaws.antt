@@ -29,7 +29,7 @@ use Rattle.clock.specs.declared.state.Left.the-variants.{Nothing, From}
 use Rattle.clock.specs.declared.state.Running.the-variants.{Reporting}
 use Rattle.clock.proofs.RuleLaws.{clock-reads, running-reads, running-makes}
 use Rattle.clock.proofs.EventLaws.{with-running-obeys}
-use Rattle.rows.specs.Outcome.{doneB}
+use Rattle.rows.specs.Reply.{doneB}
 use Rattle.rows.specs.Rows.{firstFailed, leftB, wholeB, tableRows}
 use Rattle.rows.specs.Rows as rows
 use Rattle.rows.proofs.RowLaws.{left-held}
@@ -68,7 +68,7 @@ module _ (t : List ℕ) (sd : soundB t ≡ true) (hb : Bytes t) (opcode : ℕ) (
 
   -- row 2 holds
   whole : {c : Clock} {k sent : ℕ} {l : List Record} → Runs c k sent l → wholeB c t ≡ true
-  unfolding wholeB rows.runningB
+  unfolding wholeB rows.runningWholeB
   whole r = both-yes (r .clock) ∙ rw (r .running) (left-ok (r .stands))
 
   -- the report goes on with other records left

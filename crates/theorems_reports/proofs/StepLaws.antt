@@ -19,7 +19,7 @@ use Rattle.clock.specs.declared.state.Clock.{Clock}
 use Rattle.clock.proofs.EventLaws.{Seconds, refuses-2, refuses-7, rises, Changed, changes, seconds-is, switches-is, disconnect-done}
 use Rattle.clock.proofs.PromiseLaws.{obeys}
 use Rattle.update.specs.Fault.{faultedOf}
-use Rattle.rows.specs.Outcome.{Outcome, doneB, answered}
+use Rattle.rows.specs.Reply.{Outcome, doneB, answered}
 use Rattle.rows.specs.Rows.{firstFailed, idleB, tableRows}
 use Rattle.update.specs.TimeUpdate.{updateRows}
 use Rattle.update.proofs.FaultLaws.{fault-refused, fault-done}

@@ -9,7 +9,8 @@ use Rattle.filter.specs.declared.filter.Filter.the-variants.{All, Range}
 use Rattle.record.specs.declared.kinds.Record.{Record}
 use Rattle.record.specs.declared.kinds.Record.the-variants.{TimeUpdate, TimeFault}
 use Rattle.record.specs.declared.kinds.Reading.the-variants.{Is}
-use Rattle.table_write.specs.Writing.{fresh, logAll}
+use Rattle.table_write.specs.Start.{fresh}
+use Rattle.table_write.specs.Append.{logAll}
 use Rattle.clock.specs.Answers.{numberOf}
 use Rattle.clock.specs.Events.{onOff}
 use Rattle.clock.specs.declared.state.Clock.{Clock}

@@ -5,7 +5,7 @@ use mathlib.Core.List.{List, [], _∷_}
 use Prim.Native.Nat.{ℕ}
 use lib.ListN.{take}
 use Rattle.octets.specs.Choice.{both, pick}
-use Rattle.rows.specs.Outcome.{doneB}
+use Rattle.rows.specs.Reply.{doneB}
 use Rattle.rows.specs.Rows.{idleB}
 use Rattle.racp_request.specs.Request.{requestOf}
 use Rattle.racp_request.specs.declared.request.Request.{Request}

@@ -6,10 +6,11 @@ use Rattle.octets.specs.Parts.{zerosB, over}
 use Rattle.rules.specs.Fields.{baseB, zoneB, dstB, sourceB, statusB, bitsB}
 use Rattle.filter.specs.Filter.{matchesB}
 use Rattle.record.specs.Fields.{sequenceOf}
-use Rattle.record_write.specs.Layout.{updateBytes, faultBytes, bytesOf, updateAt, faultAt, recordOf, sizedB, shapeB}
+use Rattle.record_write.specs.Layout.{updateBytes, faultBytes, bytesOf, updateRead, faultRead, recordOf, sizedB, shapeB}
 use Rattle.record_read.specs.Reading.{updateB, faultB, recordB, wellFormedB, readOf}
 use Rattle.table.specs.Table.{sizeB, startB, emptyB, fieldsB, headB, slot, bytesIn, recordIn, slots, ring, held, slotB, rowB, soundB, steps}
-use Rattle.table_write.specs.Writing.{fresh, startOf, placeOf, slotOf, headerAfter, appendOf}
+use Rattle.table_write.specs.Start.{fresh, startOf}
+use Rattle.table_write.specs.Append.{placeOf, slotOf, headerAfter, appendOf}
 use Rattle.table_look.specs.Matching.{firstFrom, nextMatch, matchingFrom, matching}
 use Rattle.clock.specs.Answers.{numberOf}
 use Rattle.clock.specs.State.{newReader}
@@ -23,7 +24,7 @@ use Rattle.update_decide.specs.Decide.{judged, decideOf}
 use Rattle.update_decide.specs.Decide as decide
 use Rattle.update_decide.specs.Accept.{statusAfter, alignedAfter, accuracyOf, acceptedOf, loggedB, updateRecord}
 use Rattle.update_decide.specs.Response.{responseBytes}
-use Rattle.rows.specs.Outcome.{doneB, answered}
+use Rattle.rows.specs.Reply.{doneB, answered}
 use Rattle.rows.specs.Rows.{firstFailed, leftB, wholeB, tableRows, writeRows}
 use Rattle.rows.specs.Rows as rows
 use Rattle.update.specs.Start.{newReaderOf}
@@ -46,17 +47,17 @@ unfoldable pub callsOpen : World → Call → World
 unfolding zerosB over
     baseB zoneB dstB sourceB statusB bitsB
     matchesB
-    sequenceOf updateBytes faultBytes bytesOf updateAt faultAt recordOf sizedB shapeB updateB faultB recordB wellFormedB
+    sequenceOf updateBytes faultBytes bytesOf updateRead faultRead recordOf sizedB shapeB updateB faultB recordB wellFormedB
     sizeB startB emptyB fieldsB headB slot bytesIn recordIn slots ring held slotB rowB soundB steps
     fresh startOf placeOf slotOf headerAfter appendOf
     firstFrom nextMatch matchingFrom matching
     numberOf newReader opcodeB filterB counterB reportB clocks.runningB timeB clockB
     unlessBroken withBase disconnected secondsOf switchesOf disconnectOf
     proposalAt clockGrade localB gradeOf epochB rangeB lowerB secondsApart unrealisticB flagIf groundsOf
-    judged decide.operandOf decideOf statusAfter alignedAfter accuracyOf acceptedOf loggedB updateRecord responseBytes
-    doneB answered firstFailed leftB rows.runningB wholeB tableRows writeRows
+    judged decide.updateOperand decideOf statusAfter alignedAfter accuracyOf acceptedOf loggedB updateRecord responseBytes
+    doneB answered firstFailed leftB rows.runningWholeB wholeB tableRows writeRows
     newReaderOf countAfter faultRecord faultedOf endingOf faultOf updateRows tableAfter afterDecision effectOf updateOf
-    codeOf operandBytes typedB filterAt request.operandOf askedOf abortOf requestOf codeBytes countBytes
+    codeOf operandBytes typedB filterAt request.filterOperand askedOf abortOf requestOf codeBytes countBytes
     firstNumber leftAt leftFrom reports.firstBytes accessRows accessed begunOf abortedOf accessedOf accessOf
     roomB notifyRows headerOf segmentOf leftAfter closingOf saidOf noticed runningNotice notifyOf
     stepBy
@@ -66,7 +67,7 @@ callsOpen = stepOf
 unfoldable pub joiningOpen : Joining → List (List ℕ) → Got
 unfolding zerosB
     baseB zoneB dstB sourceB statusB bitsB
-    updateAt faultAt recordOf sizedB shapeB updateB faultB recordB wellFormedB readOf
+    updateRead faultRead recordOf sizedB shapeB updateB faultB recordB wellFormedB readOf
     emptyJoining rangesB filledB placedB followsB standing takesB ground takenOf joinOf
     joinAll
 joiningOpen = joinAll

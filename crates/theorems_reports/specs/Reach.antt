@@ -8,7 +8,7 @@ use Rattle.octets.specs.Parts.{Bytes}
 use Rattle.filter.specs.declared.filter.Filter.{Filter}
 use Rattle.table.specs.Table.{sizeB, next, soundB}
 use Rattle.clock.specs.Obeys.{clockB}
-use Rattle.rows.specs.Rows.{runningB}
+use Rattle.rows.specs.Rows.{runningWholeB}
 use Rattle.theorems_reports.specs.World.{World, newWorld, Call, runOf}
 use Rattle.theorems_reports.specs.Hearing.{hearingOf, allCalmB}
 use Rattle.theorems_reports.specs.Reports.{Accepted, reportBegun, Hears}
@@ -16,7 +16,7 @@ use Rattle.theorems_reports.specs.Reports.{Accepted, reportBegun, Hears}
 -- The clock obeys its rules, alone and with the table; the table is sound, and every byte of it a byte.
 pub record Good (v : World) : Type 0 where
   pub clock : clockB (v .clock) ≡ true
-  pub running : runningB (v .table) (v .clock .running) ≡ true
+  pub running : runningWholeB (v .table) (v .clock .running) ≡ true
   pub faults : v .clock .time .faults < 65536
   pub sound : soundB (v .table) ≡ true
   pub next : next (v .table) < 65536

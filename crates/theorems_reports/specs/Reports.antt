@@ -13,7 +13,7 @@ use Rattle.record_write.specs.Layout.{bytesOf}
 use Rattle.record.specs.declared.kinds.Record.{Record}
 use Rattle.record.specs.declared.kinds.Reading.the-variants.{Is}
 use Rattle.table_look.specs.Matching.{matching}
-use Rattle.rows.specs.Outcome.{doneB}
+use Rattle.rows.specs.Reply.{doneB}
 use Rattle.racp_request.specs.Request.{opcodeIn, requestOf}
 use Rattle.racp_request.specs.declared.request.Request.the-variants.{Report}
 use Rattle.racp_access.specs.Access.{accessOf}

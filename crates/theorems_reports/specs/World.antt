@@ -5,7 +5,7 @@ use Prim.Native.Nat.{ℕ}
 use Rattle.octets.specs.Parts.{Bytes}
 use Rattle.clock.specs.Events.{secondsOf, switchesOf, disconnectOf}
 use Rattle.clock.specs.declared.state.Clock.{Clock}
-use Rattle.rows.specs.Outcome.{Outcome}
+use Rattle.rows.specs.Reply.{Outcome}
 use Rattle.update.specs.Start.{newReaderOf}
 use Rattle.update.specs.Fault.{faultOf}
 use Rattle.update.specs.TimeUpdate.{updateOf}

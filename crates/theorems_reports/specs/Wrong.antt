@@ -16,7 +16,7 @@ use Rattle.clock.specs.declared.state.Left.the-variants.{Nothing, From}
 use Rattle.clock.specs.declared.state.Report.{Report}
 use Rattle.clock.specs.declared.state.Running.{Running}
 use Rattle.clock.specs.declared.state.Running.the-variants.{Idle, Reporting}
-use Rattle.rows.specs.Outcome.{doneB}
+use Rattle.rows.specs.Reply.{doneB}
 use Rattle.rows.specs.Rows.{firstFailed}
 use Rattle.racp_access.specs.Report.{report, firstBytes}
 use Rattle.racp_notify.specs.Notify.{notifyRows, headerOf, counterAfter, lastB, segmentOf, leftAfter, closingOf, Said, said, Notice, notice, unsaid, noticed, notifyOf}

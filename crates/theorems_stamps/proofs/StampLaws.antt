@@ -15,7 +15,7 @@ use Rattle.octets.proofs.Tests.{clash}
 use Rattle.record.specs.declared.kinds.Record.{Record}
 use Rattle.record.specs.declared.kinds.Record.the-variants.{TimeUpdate, TimeFault}
 use Rattle.table.specs.Table.{slotsIn, sizeB, capacity, next, held}
-use Rattle.table_write.specs.Writing.{newest}
+use Rattle.table_write.specs.Append.{newest}
 use Rattle.table.proofs.HeadLaws.{sound-head}
 use Rattle.table_write.proofs.HistoryLaws.{length-held}
 use Rattle.clock.proofs.RuleLaws.{clock-reads}

@@ -13,7 +13,7 @@ use Rattle.record.specs.Fields.{Fits}
 use Rattle.record.specs.declared.kinds.Record.{Record}
 use Rattle.record.specs.declared.kinds.Record.the-variants.{TimeUpdate, TimeFault}
 use Rattle.table.specs.Table.{capacity, next, held}
-use Rattle.table_write.specs.Writing.{appendOf, newest}
+use Rattle.table_write.specs.Append.{appendOf, newest}
 use Rattle.table_write.proofs.AppendLaws.{next-appended, capacity-appended}
 use Rattle.table.proofs.HeadLaws.{sound-head}
 use Rattle.table_write.proofs.HistoryLaws.{newest-appended}
@@ -27,7 +27,7 @@ use Rattle.update_judge.specs.Proposal.{proposalAt}
 use Rattle.update_decide.proofs.AcceptLaws.{record-fits}
 use Rattle.update_judge.proofs.ProposalLaws.{proposal-sized}
 use Rattle.update.specs.Fault.{faultRecord, faultedOf, faultOf}
-use Rattle.rows.specs.Outcome.{doneB}
+use Rattle.rows.specs.Reply.{doneB}
 use Rattle.update.specs.Theorems.{successB}
 use Rattle.update.specs.TimeUpdate.{updateOf}
 use Rattle.update.proofs.PromiseLaws.{logged, refused-unchanged}

@@ -12,11 +12,11 @@ use lib.ListN.{length, replicate, drop-of-length-le}
 use Rattle.octets.proofs.Tests.{clash, both-yes}
 use Rattle.record.specs.declared.kinds.Record.{Record}
 use Rattle.table.specs.Table.{sizeB, next, held}
-use Rattle.table_write.specs.Writing.{newest}
+use Rattle.table_write.specs.Append.{newest}
 use Rattle.clock.specs.Answers as clocks
 use Rattle.clock.proofs.RuleLaws.{clock-reads}
 use Rattle.update.specs.Fault.{faultRecord}
-use Rattle.rows.specs.Outcome.{doneB, answered}
+use Rattle.rows.specs.Reply.{doneB, answered}
 use Rattle.rows.specs.Rows.{wholeB}
 use Rattle.update.proofs.FaultLaws.{fault-done}
 use Rattle.theorems_reports.proofs.GoodLaws.{new-table, new-good}

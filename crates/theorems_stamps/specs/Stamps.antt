@@ -10,12 +10,12 @@ use lib.ListN.{length}
 use Rattle.octets.specs.Choice.{both, pick}
 use Rattle.record.specs.declared.kinds.Record.{Record}
 use Rattle.table.specs.Table.{slotsIn, sizeB, next, held}
-use Rattle.table_write.specs.Writing.{newest}
+use Rattle.table_write.specs.Append.{newest}
 use Rattle.clock.specs.Events.{secondsOf}
 use Rattle.update_judge.specs.Proposal.{proposalAt}
 use Rattle.update_decide.specs.Accept.{updateRecord}
 use Rattle.update.specs.Fault.{faultRecord, faultOf}
-use Rattle.rows.specs.Outcome.{doneB}
+use Rattle.rows.specs.Reply.{doneB}
 use Rattle.update.specs.Theorems.{successB}
 use Rattle.update.specs.TimeUpdate.{updateOf}
 use Rattle.carry.specs.Stamp.{carryingNumber, noFaultB}

@@ -14,7 +14,7 @@ use Rattle.clock.specs.declared.state.Clock.{Clock}
 use Rattle.clock.specs.declared.state.Running.{Running}
 use Rattle.clock.specs.declared.state.Running.the-variants.{Idle, Reporting}
 use Rattle.update_decide.specs.Decide.{decideOf}
-use Rattle.rows.specs.Outcome.{Outcome, doneB, answered}
+use Rattle.rows.specs.Reply.{Outcome, doneB, answered}
 use Rattle.rows.specs.Rows.{firstFailed, tableRows}
 use Rattle.rows.proofs.ReplyLaws.{brokenOf, Replies, broken-refused, rows-broken, table-broken}
 use Rattle.update.specs.Fault.{endingOf, faultOf}

@@ -14,36 +14,36 @@ use Rattle.clock.specs.declared.state.Clock.{Clock}
 use Rattle.update_judge.specs.Proposal.{updateWriteBytes, proposalAt}
 use Rattle.update_judge.specs.Grounds.{groundsOf}
 use Rattle.codes.specs.Dtcp.{proposeOpcode, forceOpcode}
-use Rattle.update_decide.specs.Decide.{judged, operandOf, decideOf, TakenFrom}
+use Rattle.update_decide.specs.Decide.{judged, updateOperand, decideOf, TakenFrom}
 use Rattle.update_judge.specs.declared.proposal.Proposal.{Proposal}
 use Rattle.update_decide.specs.declared.decide.Decision.the-variants.{Unsupported, WrongLength, Rejected, Taken}
 use Rattle.update_judge.proofs.GroundLaws.{grounds-none}
 
 module _ (c : Clock) (w : List ℕ) (forced : Bool) where
-  pub operand-short : (length w ≡ updateWriteBytes → ⊥) → operandOf c w forced ≡ WrongLength
-  unfolding operandOf
+  pub operand-short : (length w ≡ updateWriteBytes → ⊥) → updateOperand c w forced ≡ WrongLength
+  unfolding updateOperand
   operand-short h = rw (ne-eqb (length w) updateWriteBytes h)
 
-  sized-operand : length w ≡ updateWriteBytes → operandOf c w forced ≡ judged (proposalAt w) (groundsOf (c .time) (proposalAt w) forced)
-  unfolding operandOf
+  sized-operand : length w ≡ updateWriteBytes → updateOperand c w forced ≡ judged (proposalAt w) (groundsOf (c .time) (proposalAt w) forced)
+  unfolding updateOperand
   sized-operand h = rw (eq-eqb (length w) updateWriteBytes h)
 
   module _ (p : Proposal) (flags : ℕ) (size : length w ≡ updateWriteBytes) (read : p ≡ proposalAt w) (found : flags ≡ groundsOf (c .time) p forced) where
-    judged-operand : operandOf c w forced ≡ judged p flags
+    judged-operand : updateOperand c w forced ≡ judged p flags
     judged-operand = sized-operand size ∙ cc
 
-    pub operand-taken : flags ≡ 0 → operandOf c w forced ≡ Taken p
+    pub operand-taken : flags ≡ 0 → updateOperand c w forced ≡ Taken p
     unfolding judged
     operand-taken h = judged-operand ∙ rw (eq-eqb flags 0 h)
 
-    pub operand-rejected : (flags ≡ 0 → ⊥) → operandOf c w forced ≡ Rejected flags
+    pub operand-rejected : (flags ≡ 0 → ⊥) → updateOperand c w forced ≡ Rejected flags
     unfolding judged
     operand-rejected h = judged-operand ∙ rw (ne-eqb flags 0 h)
 
 -- a decision that is `Taken` comes from a write of the right length with no ground
-operand-reads : (c : Clock) (w : List ℕ) (forced : Bool) (p : Proposal) → operandOf c w forced ≡ Taken p
+operand-reads : (c : Clock) (w : List ℕ) (forced : Bool) (p : Proposal) → updateOperand c w forced ≡ Taken p
     → (p ≡ proposalAt w) × ((length w ≡ updateWriteBytes) × (groundsOf (c .time) p forced ≡ 0))
-unfolding operandOf judged
+unfolding updateOperand judged
 operand-reads c w forced p h =
     go (eqb (length w) updateWriteBytes) (eqb (groundsOf (c .time) (proposalAt w) forced) 0) refl refl h
   where
@@ -60,7 +60,7 @@ pub taken-reads : (c : Clock) (w : List ℕ) (p : Proposal) → decideOf c w ≡
 unfolding decideOf
 taken-reads c w p h = go (eqb (at w 0) proposeOpcode) (eqb (at w 0) forceOpcode) refl refl h
   where
-    from : (forced : Bool) → eqb (at w 0) forceOpcode ≡ forced → operandOf c w forced ≡ Taken p → TakenFrom c w p
+    from : (forced : Bool) → eqb (at w 0) forceOpcode ≡ forced → updateOperand c w forced ≡ Taken p → TakenFrom c w p
     from forced f e =
         let r = operand-reads c w forced p e in
         record {
@@ -71,7 +71,7 @@ taken-reads c w p h = go (eqb (at w 0) proposeOpcode) (eqb (at w 0) forceOpcode)
         }
 
     go : (propose force : Bool) → eqb (at w 0) proposeOpcode ≡ propose → eqb (at w 0) forceOpcode ≡ force
-        → pick propose (operandOf c w false) (pick force (operandOf c w true) Unsupported) ≡ Taken p
+        → pick propose (updateOperand c w false) (pick force (updateOperand c w true) Unsupported) ≡ Taken p
         → TakenFrom c w p
     go true force a f e =
         let two = eqb-true (at w 0) proposeOpcode a in from false (ne-eqb (at w 0) forceOpcode (λ three. omega arith)) e

@@ -21,16 +21,16 @@ unfoldable pub judged : Proposal → ℕ → Decision
 judged p flags = pick (eqb flags 0) (Taken p) (Rejected flags)
 
 -- "A wrong operand length, second fractions included, gives Invalid Operand 0x03. Otherwise every ground is tested"
-unfoldable pub operandOf : Clock → List ℕ → Bool → Decision
-operandOf c w forced =
+unfoldable pub updateOperand : Clock → List ℕ → Bool → Decision
+updateOperand c w forced =
     pick (eqb (length w) updateWriteBytes) (judged (proposalAt w) (groundsOf (c .time) (proposalAt w) forced)) WrongLength
 
 -- "An unknown opcode gives 0x02, as does a procedure left out": whatever follows it
 unfoldable pub decideOf : Clock → List ℕ → Decision
 decideOf c w =
     pick (eqb (at w 0) proposeOpcode)
-    (operandOf c w false)
-    (pick (eqb (at w 0) forceOpcode) (operandOf c w true) Unsupported)
+    (updateOperand c w false)
+    (pick (eqb (at w 0) forceOpcode) (updateOperand c w true) Unsupported)
 
 -- What a write that is taken is known to be.
 pub record TakenFrom (c : Clock) (w : List ℕ) (p : Proposal) : Type 0 where

@@ -9,7 +9,7 @@ use update_judge::proposal::proposal_at;
 ghost use mathlib.Core.Path.{_≡_};
 ghost use Prim.Native.Nat.{_≤_};
 ghost use lib.ListN.{length};
-ghost use Rattle.update_decide.specs.Decide.{operandOf, decideOf};
+ghost use Rattle.update_decide.specs.Decide.{updateOperand, decideOf};
 
 // The opcode and the operand's 10 bytes.
 const UPDATE_WRITE_BYTES: usize = 11;
@@ -24,7 +24,7 @@ pub enum Decision {
 
 // The same for both procedures: the operand's length, then the grounds.
 fn decide_operand(c: Clock, write: &[u8], forced: bool) -> Decision
-    ensures { λ r. ⌜ r ≡ operandOf c (now (write .entry)) forced ⌝ }
+    ensures { λ r. ⌜ r ≡ updateOperand c (now (write .entry)) forced ⌝ }
 {
     if write.len() != UPDATE_WRITE_BYTES {
         return Decision::WrongLength;

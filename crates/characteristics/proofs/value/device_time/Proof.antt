@@ -6,7 +6,7 @@ use borrow.Author.Tests.{not-true, not-false, leb-true}
 use lib.Dec.{leb}
 use lib.ListN.{length}
 use Rattle.clock.specs.declared.answers.Answer.{Answer}
-use Rattle.rows.specs.Outcome.{doneB, refused, answered}
+use Rattle.rows.specs.Reply.{doneB, refused, answered}
 use Rattle.rows.specs.Rows.{firstFailed, tableRows}
 use Rattle.rows.proofs.RowLaws.{TableRows, table-all}
 use Rattle.characteristics.specs.Value.{deviceTimeBytes}

@@ -1,7 +1,7 @@
 -- Field by field, each as its call says.
 -- Assumes nothing.
 use mathlib.Core.Path.{ap}
-use Rattle.rows.specs.Outcome.{Outcome}
+use Rattle.rows.specs.Reply.{Outcome}
 use Rattle.update.specs.Start.{Begun}
 use Rattle.day_evening.proofs.FetchLaws.{asked-is}
 use borrow.Author.Needs.{needs}

@@ -1,7 +1,7 @@
 -- Clock and table as the fault left them.
 -- Assumes nothing.
 use mathlib.Core.Path.{ap}
-use Rattle.rows.specs.Outcome.{Outcome}
+use Rattle.rows.specs.Reply.{Outcome}
 use Rattle.day_play.specs.Reader.{readerAfter, failedOf}
 use borrow.Author.Needs.{needs}
 use Rattle.day_play.proofs.reader.fail.Statement.{statement}

@@ -3,7 +3,7 @@
 use mathlib.Core.Path.{ap, _∙_}
 use mathlib.Core.List.{List}
 use Prim.Native.Nat.{ℕ}
-use Rattle.rows.specs.Outcome.{Outcome}
+use Rattle.rows.specs.Reply.{Outcome}
 use Rattle.update.specs.TimeUpdate.{updateOf}
 use Rattle.day_play.specs.Reader.{output, readerAfter, setOf}
 use mathlib.Core.Path.{ap}

@@ -5,7 +5,7 @@ use borrow.Author.Tests.{not-true, not-false}
 use lib.ListN.{length}
 use Rattle.clock.specs.declared.answers.Answer.{Answer}
 use Rattle.clock.specs.declared.answers.Answer.the-variants.{NothingRunning}
-use Rattle.rows.specs.Outcome.{doneB}
+use Rattle.rows.specs.Reply.{doneB}
 use Rattle.rows.specs.Rows.{thenOf}
 use Rattle.rows.proofs.RowLaws.{table-all}
 use Rattle.racp_notify.specs.Notify.{unsaid}

@@ -2,7 +2,7 @@
 -- Assumes nothing.
 use mathlib.Core.Path.{sym, ap}
 use Rattle.clock.specs.Answers.{numberOf}
-use Rattle.rows.specs.Outcome.{doneB}
+use Rattle.rows.specs.Reply.{doneB}
 use borrow.Author.Needs.{needs}
 use Rattle.rows.proofs.reply.done.Statement.{statement}
 use Rattle.rows.proofs.reply.done.Tie as tie

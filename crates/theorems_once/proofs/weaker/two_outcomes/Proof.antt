@@ -15,7 +15,7 @@ use Rattle.clock.specs.declared.answers.Answer.{Answer}
 use Rattle.clock.specs.declared.answers.Answer.the-variants.{Done, OutputShort}
 use Rattle.clock.specs.declared.events.Event.{Event}
 use Rattle.clock.specs.declared.state.Clock.{Clock}
-use Rattle.rows.specs.Outcome.{Outcome, reply}
+use Rattle.rows.specs.Reply.{Outcome, reply}
 use Rattle.rows.specs.declared.reply.Reply.{Reply}
 use Rattle.update.specs.Fault.{faultOf}
 use Rattle.theorems_once.proofs.weaker.two_outcomes.Statement.{statement}
