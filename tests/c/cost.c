@@ -1,22 +1,48 @@
 /*
  * Makes one kind of call a number of times over a full table of so many slots: cost KIND SLOTS TIMES. For
- * counting instructions: what TIMES more cost is the difference of two counts (tools/cost).
+ * counting instructions: what TIMES more cost is the difference of two counts (tools/cost, which names the
+ * kinds). Each call finds the state that the first one found.
  */
 #include "check.h"
 #include "whiskraven.h"
 #include <stdlib.h>
 
-static uint8_t state[DTS_STATE_BYTES], out[DTS_LARGEST_PAYLOAD], table[DTS_TABLE_BYTES(DTS_MOST_SLOTS)];
+static uint8_t state[DTS_STATE_BYTES], found[DTS_STATE_BYTES], out[DTS_LARGEST_PAYLOAD];
+static uint8_t table[DTS_TABLE_BYTES(DTS_MOST_SLOTS)], request[7];
+static size_t length, asked;
 static const uint8_t force[] = {0x03, 0x43, 0x00, 0x00, 0x08, 0xAF, 0x2F, 0x04, 0x00, 0x02, 0x01};
-static const uint8_t last[] = {0x01, 0x06};
 
-/* A full table, numbers 0 to slots - 1: the record of the first update, again and again. */
-static size_t fill(unsigned slots)
+static int32_t update(void)
 {
-    size_t length = DTS_TABLE_BYTES(slots);
+    return dts_dtcp_write(state, sizeof state, table, length, force, sizeof force, out, sizeof out);
+}
+
+static int32_t access_records(void)
+{
+    return dts_racp_write(state, sizeof state, table, length, request, asked, out, sizeof out);
+}
+
+static int32_t notify(uint32_t p)
+{
+    return dts_notify(state, sizeof state, table, length, p, out, sizeof out);
+}
+
+static int32_t carry(uint16_t q)
+{
+    int64_t carried;
+    return dts_carry(800000000, q, table, length, &carried);
+}
+
+/* A full table, numbers 0 to slots - 1: the record of the first update, or of a fault, again and again. */
+static void fill(unsigned slots, int faults)
+{
+    length = DTS_TABLE_BYTES(slots);
     expect("start", dts_start(state, sizeof state, table, length), 0);
     expect("switches", dts_switches(state, sizeof state, 1, 1, 1), 0);
-    expect("update", dts_dtcp_write(state, sizeof state, table, length, force, sizeof force, out, sizeof out), 3);
+    if (faults)
+        expect("fault", dts_fault(state, sizeof state, table, length, out, sizeof out), 0);
+    else
+        expect("update", update(), 3);
     for (unsigned k = 1; k < slots; k++) {
         uint8_t *slot = table + DTS_TABLE_BYTES(k);
         memcpy(slot, table + DTS_HEADER_BYTES, DTS_SLOT_BYTES);
@@ -25,18 +51,48 @@ static size_t fill(unsigned slots)
     }
     table[2] = table[8] = (uint8_t)slots;
     table[3] = table[9] = (uint8_t)(slots >> 8);
-    return length;
 }
 
-static int32_t once(char kind, size_t length, uint16_t q)
+enum { REPORT = 1, NUMBER = 4 };                                /* opcodes.. */
+enum { ALL = 1, AT_LEAST = 3, RANGE = 4, FIRST = 5, LAST = 6 }; /* ..and operators of the RACP */
+
+/* What is to be written to the RACP. */
+static void ask(uint8_t opcode, uint8_t operator, unsigned minimum, unsigned maximum)
 {
-    int64_t carried;
+    const uint8_t bytes[] = {opcode, operator, 0x01, (uint8_t)minimum, (uint8_t)(minimum >> 8),
+                             (uint8_t)maximum, (uint8_t)(maximum >> 8)};
+    memcpy(request, bytes, sizeof request);
+    asked = operator == RANGE ? 7 : operator == AT_LEAST ? 5 : 2;
+}
+
+/* The first call's state: for o and t a report runs already. */
+static void prepare(char kind, unsigned newest)
+{
     switch (kind) {
-    case 's': return dts_carry(800000000, q, table, length, &carried);
-    case 'c': return dts_carry(800000000, 0, table, length, &carried);
-    case 'w': return dts_dtcp_write(state, sizeof state, table, length, force, sizeof force, out, sizeof out) - 3;
-    case 'r': return dts_racp_write(state, sizeof state, table, length, last, sizeof last, out, sizeof out);
-    default: return dts_device_time(state, sizeof state, table, length, out, sizeof out) - DTS_DEVICE_TIME_BYTES;
+    case 'n': ask(NUMBER, ALL, 0, 0); break;
+    case 'a': ask(NUMBER, AT_LEAST, 0, 0); break;
+    case 'b': ask(NUMBER, RANGE, 0, newest); break;
+    case 'p': ask(REPORT, RANGE, newest, newest); break;
+    case 'o': ask(REPORT, FIRST, 0, 0); break;
+    case 't': ask(REPORT, ALL, 0, 0); break;
+    default: ask(REPORT, LAST, 0, 0);
+    }
+    if (kind == 'o' || kind == 't')
+        expect("report", access_records(), 0);
+    memcpy(found, state, sizeof found);
+}
+
+static int32_t once(char kind, uint16_t next)
+{
+    switch (kind) {
+    case 's': case 'f': return carry(next);
+    case 'c': return carry(0);
+    case 'w': return update() - 3;
+    case 'd': return dts_device_time(state, sizeof state, table, length, out, sizeof out) - DTS_DEVICE_TIME_BYTES;
+    case 'n': case 'a': case 'b': return access_records() - 4;
+    case 'o': return notify(DTS_LARGEST_PAYLOAD) - (1 + DTS_TIME_UPDATE_BYTES);
+    case 't': return notify(DTS_SMALLEST_PAYLOAD) - DTS_SMALLEST_PAYLOAD;
+    default: return access_records();
     }
 }
 
@@ -44,13 +100,14 @@ int main(int count, char **words)
 {
     if (count != 4)
         return 2;
+    char kind = words[1][0];
     unsigned slots = (unsigned)strtoul(words[2], 0, 10);
     unsigned long times = strtoul(words[3], 0, 10);
-    size_t length = fill(slots);
+    fill(slots, kind == 'f');
+    prepare(kind, slots - 1);
     for (unsigned long k = 0; k < times; k++) {
-        expect("call", once(words[1][0], length, (uint16_t)slots), 0);
-        if (words[1][0] == 'r')
-            expect("disconnect", dts_disconnect(state, sizeof state) + dts_switches(state, sizeof state, 1, 1, 1), 0);
+        expect("call", once(kind, (uint16_t)slots), 0);
+        memcpy(state, found, sizeof state);
     }
     return differences != 0;
 }
