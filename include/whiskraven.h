@@ -86,7 +86,7 @@ enum {
 /* dts_notify adds this to the number of bytes where they close the report. */
 enum { DTS_CLOSING = 256 };
 
-/* Refusal numbers; an answer below 0 is minus one of these. There is no 9. */
+/* Refusal numbers; an answer below 0 is minus one of these. There is no 9, and none from 15 to 22. */
 enum {
     DTS_REFUSED_TABLE = 1,        /* the log table is not sound */
     DTS_REFUSED_STATE = 2,        /* the state has another length, another encoding, or breaks a rule */
@@ -100,7 +100,8 @@ enum {
     DTS_REFUSED_RECORD = 11,      /* the bytes are not a well-formed record */
     DTS_REFUSED_NOT_HELD = 12,    /* a record logged after the stamp is no longer held */
     DTS_REFUSED_FAULT = 13,       /* a Time_Fault lies after the stamp */
-    DTS_REFUSED_TOO_LARGE = 14    /* the carried stamp is outside 64 bits; no table leads there */
+    DTS_REFUSED_TOO_LARGE = 14,   /* the carried stamp is outside 64 bits; no table leads there */
+    DTS_REFUSED_NOT_NEXT = 23     /* the number of a record to be kept does not follow */
 };
 
 /* ATT errors of refusals 4, 5, 6: see dts_att_error. */
@@ -221,7 +222,7 @@ int32_t dts_parameters(uint8_t *out, size_t out_length);
  */
 int32_t dts_att_error(uint32_t number);
 
-/* ---- The tablet: joining, reading, carrying ---- */
+/* ---- The tablet: joining, reading, keeping, carrying ---- */
 
 /*
  * Takes one notification of the log. The joining state is 48 bytes: 0 phase (0 empty, 1 a whole record,
@@ -238,8 +239,19 @@ int32_t dts_join(uint8_t *joining, size_t joining_length, const uint8_t *notific
 int32_t dts_read(const uint8_t *bytes, size_t bytes_length, uint32_t fields[DTS_FIELDS]);
 
 /*
+ * Keeps a record in the tablet's own copy of a log. The copy is a table of any permitted size, empty at
+ * first: zero it but for N in bytes 0-1 and 16 in byte 4, or let dts_start do so with a state that is not used.
+ * Into an empty copy any number may come first, and the next number becomes that number plus 1 (after 65,535
+ * comes 0); then only the next number may come. Where all slots are taken the oldest record is overwritten.
+ * Answers 0. So a report of all records, joined and kept in order, leaves the newest of the reader's records,
+ * as many as fit, and its next number.
+ * Refuses: 1, 11, 23 (the copy holds records, and this one's number is not the next).
+ */
+int32_t dts_keep(uint8_t *table, size_t table_length, const uint8_t *record, size_t record_length);
+
+/*
  * Carries a stamp over the clock changes logged since it was taken. q was the log's next sequence number
- * then; the table is the log now, or a sound table that the tablet has built from the records it fetched.
+ * then; the table is the log now, or the tablet's own copy of it (dts_keep).
  * Answers 0 and sets *carried: the clock's present Base_Time minus *carried is the seconds that ran since,
  * if fewer than 65,536 records were logged since. It may be below 0. Refused, *carried is untouched.
  * Refuses: 1, 12, 13, 14.

@@ -1,9 +1,10 @@
-// The tablet's calls: joining, reading, carrying.
+// The tablet's calls: joining, reading, keeping, carrying.
 use tablet_bytes::calls::carry_at;
 use tablet_bytes::calls::join_at;
+use tablet_bytes::calls::keep_at;
 use tablet_bytes::calls::read_at;
 ghost use mathlib.Core.Path.{_≡_};
-ghost use Rattle.tablet_bytes.specs.Calls.{joined, joinAt, reading, readAt, carrying, carryAt};
+ghost use Rattle.tablet_bytes.specs.Calls.{joined, joinAt, reading, readAt, keptBytes, keepAt, carrying, carryAt};
 
 // One notification joined. Refuses: 10, another length than 48 bytes too; then every byte lent becomes 0.
 // Answers 0 where more is to come, else the length of the whole record that stands there.
@@ -20,6 +21,14 @@ pub extern "C" fn dts_read(bytes: &[u8], fields: &mut [u32; 11]) -> i32
     ensures { λ r. ⌜ reading r (now (fields .exit)) ≡ readAt (now (bytes .entry)) (now (fields .entry)) ⌝ }
 {
     read_at(bytes, fields)
+}
+
+// A record's bytes kept in the tablet's own copy of a log. Refuses: 1, 11, 23.
+#[no_mangle]
+pub extern "C" fn dts_keep(table: &mut [u8], bytes: &[u8]) -> i32
+    ensures { λ r. ⌜ keptBytes r (now (table .exit)) ≡ keepAt (now (table .entry)) (now (bytes .entry)) ⌝ }
+{
+    keep_at(table, bytes)
 }
 
 // A stamp carried over the records logged after it. Refuses: 1, 12, 13; never 14 (`carry::stamp::carry`).

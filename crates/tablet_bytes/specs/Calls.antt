@@ -1,4 +1,4 @@
--- The tablet's calls: joining over its state's image, reading into eleven numbers, carrying.
+-- The tablet's calls: joining over its state's image, reading into eleven numbers, keeping in a table, carrying.
 use mathlib.Core.List.{List, [], _∷_}
 use Prim.Native.Nat.{ℕ}
 use lib.Dec.{eqb}
@@ -16,6 +16,7 @@ use Rattle.joining.specs.Joining.{joinOf, joiningNumber}
 use Rattle.joining.specs.declared.joining.Answer.{Answer}
 use Rattle.joining.specs.declared.joining.Answer.the-variants.{More, Whole, Refused}
 use Rattle.joining.specs.declared.joining.Joined.{Joined}
+use Rattle.keep.specs.Keep.{keepOf, keepingNumber}
 use Rattle.carry.specs.Stamp.{carryOf}
 use Rattle.carry.specs.Stamp as carry
 use Rattle.carry.specs.declared.stamp.Carried.{Carried}
@@ -69,6 +70,17 @@ numbersAfter f readings.Refused = f
 
 unfoldable pub readAt : List ℕ → List ℕ → ReadNumbers
 readAt b f = reading (refusal (wellFormed.readingNumber (readOf b))) (numbersAfter f (readOf b))
+
+-- the result, minus the number that keeping answers, and the bytes of the table after it
+pub record KeptBytes : Type 0 where
+  pub result : ℤ
+  pub table : List ℕ
+
+abbrev pub keptBytes : ℤ → List ℕ → KeptBytes
+keptBytes z t = record { result = z; table = t }
+
+unfoldable pub keepAt : List ℕ → List ℕ → KeptBytes
+keepAt t b = keptBytes (refusal (keepingNumber (keepOf t b .answer))) (keepOf t b .table)
 
 -- the result, minus the number that carrying answers, and the carried stamp after it
 pub record CarriedTo : Type 0 where

@@ -1,8 +1,10 @@
-// The tablet's calls: joining, reading, carrying.
+// The tablet's calls: joining, reading, keeping, carrying.
 use carry::stamp::Carried;
 use carry::stamp::carry;
 use joining::joining::Answer;
 use joining::joining::join;
+use keep::keep::Kept;
+use keep::keep::keep;
 use octets::parts::clear;
 use octets::parts::copy;
 use record::kinds::Reading;
@@ -12,7 +14,7 @@ use state_bytes::joining_state::JOINING_BYTES;
 use state_bytes::joining_state::joining_image;
 use state_bytes::joining_state::joining_in;
 ghost use mathlib.Core.Path.{_≡_};
-ghost use Rattle.tablet_bytes.specs.Calls.{joinResult, fieldsIn, joined, joinAt, reading, readAt, carrying, carryAt};
+ghost use Rattle.tablet_bytes.specs.Calls.{joinResult, fieldsIn, joined, joinAt, reading, readAt, keptBytes, keepAt, carrying, carryAt};
 
 // 0 where more is to come, the length of a whole record, or minus 10.
 fn join_result(answer: Answer, len: u8) -> i32
@@ -86,6 +88,18 @@ pub fn read_at(bytes: &[u8], fields: &mut [u32; 11]) -> i32
     };
     *fields = fields_in(r);
     0
+}
+
+// A record's bytes kept in the tablet's own copy of a log. Refuses: 1, 11, 23.
+pub fn keep_at(table: &mut [u8], bytes: &[u8]) -> i32
+    ensures { λ r. ⌜ keptBytes r (now (table .exit)) ≡ keepAt (now (table .entry)) (now (bytes .entry)) ⌝ }
+{
+    match keep(table, bytes) {
+        Kept::Done => 0,
+        Kept::TableNotSound => -1,
+        Kept::NotARecord => -11,
+        Kept::DoesNotFollow => -23,
+    }
 }
 
 // A stamp carried over the records logged after it. Refuses: 1, 12, 13; never 14 (`carry::stamp::carry`).
