@@ -31,7 +31,7 @@ read-well : (b : List ℕ) → wellFormedB b ≡ true → readOf b ≡ Is (recor
 unfolding readOf
 read-well b h = rw h
 
-bytes-slot : (t : List ℕ) (o : ℕ) → Bytes t → Bytes (bytesIn (slot t o))
+pub bytes-slot : (t : List ℕ) (o : ℕ) → Bytes t → Bytes (bytesIn (slot t o))
 unfolding bytesIn slot
 bytes-slot t o h =
     let s = take 64 (drop o t) in bytes-take (at s 0) (drop 1 s) (bytes-drop 1 s (bytes-take 64 (drop o t) (bytes-drop o t h)))

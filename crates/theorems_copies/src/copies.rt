@@ -1,0 +1,18 @@
+// The theorems about copies: each the promise of an empty function, so that the check asks for its proof.
+ghost use Rattle.theorems_copies.specs.Copies.{FetchedCopy, CarriedOverCopy};
+ghost use Rattle.theorems_copies.specs.Cases.{Computed};
+
+// A finished report of all records, joined and kept in a new table, makes a copy of the reader's log.
+pub fn fetched_copy()
+    ensures { λ _. ⌜ FetchedCopy ⌝ }
+{}
+
+// A stamp carried over a copy that holds enough is carried as over the reader's own table.
+pub fn carried_over_copy()
+    ensures { λ _. ⌜ CarriedOverCopy ⌝ }
+{}
+
+// A log that has rolled, fetched into copies of five slots and of two, and stamps carried over them.
+pub fn computed()
+    ensures { λ _. ⌜ Computed ⌝ }
+{}
