@@ -173,7 +173,7 @@ zero-reads ReportRunning n h = absurd (pos-ne-negsuc 0 _ (sym h))
 zero-reads PastTheEnd n h = absurd (pos-ne-negsuc 0 _ (sym h))
 zero-reads NothingRunning n h = absurd (pos-ne-negsuc 0 _ (sym h))
 
-accepted-is : (v : World) (w o : List ℕ) (hw : Bytes w) (f : Filter) → Fit v → AcceptedAt (imageIn v) w o hw f → Accepted v w o f
+pub accepted-is : (v : World) (w o : List ℕ) (hw : Bytes w) (f : Filter) → Fit v → AcceptedAt (imageIn v) w o hw f → Accepted v w o f
 unfolding calledOf saidOf
 accepted-is v w o hw f x a =
     let u = accessOf (v .clock) (v .table) w o in
@@ -189,7 +189,7 @@ begun-is : (v : World) (w o : List ℕ) (hw : Bytes w) → Fit v → stepAt (ima
 unfolding callOf runOf stepBy
 begun-is v w o hw x = step-is v (racpWrite w o hw) x
 
-heard-is : (v : World) (w o : List ℕ) (hw : Bytes w) (ks : List ByteCall) → Fit v
+pub heard-is : (v : World) (w o : List ℕ) (hw : Bytes w) (ks : List ByteCall) → Fit v
     → hearingAt (stepAt (imageIn v) (racpWrite w o hw)) ks ≡ hearingOf (reportBegun v w o) (callsOf ks)
 heard-is v w o hw ks x = ap (λ (b : ByteWorld). hearingAt b ks) (begun-is v w o hw x) ∙ hearing-is ks (reportBegun v w o) (begun-fit v w o hw x)
 

@@ -1,0 +1,84 @@
+-- What is joined and kept over bytes is what is joined and kept by value.
+-- Assumes nothing.
+use mathlib.Core.Path.{_≡_, refl, sym, ap, subst, _∙_}
+use mathlib.Core.Bool.{Bool, true}
+use mathlib.Core.List.{List, [], _∷_}
+use Prim.Native.Nat.{ℕ, zero, suc, _≤_}
+use native.Mathlib.Omega.{arith}
+use borrow.Author.Tests.{eq-eqb, ne-eqb}
+use lib.Dec.{eqb}
+use lib.ListN.{length, replicate, length-drop}
+use Rattle.octets.specs.Choice.{both, pick}
+use Rattle.octets.specs.Parts.{part, Bytes}
+use Rattle.filter.specs.declared.filter.Filter.the-variants.{All}
+use Rattle.record.specs.Fields.{mostBytes}
+use Rattle.table.specs.Table.{slotsIn, sizeB}
+use Rattle.table.proofs.HeadLaws.{size-reads}
+use Rattle.table_write.specs.Start.{fresh, startOf}
+use Rattle.update.specs.Start.{newReaderOf}
+use Rattle.joining.specs.Joining.{emptyJoining, lenAfter, joinOf, joinedIn}
+use Rattle.joining.specs.declared.joining.Joined.{Joined}
+use Rattle.joining.specs.declared.joining.Joining.{Joining}
+use Rattle.joining.proofs.JoiningLaws.{Joins, refuses, goes-on, ends, join-is, empty-bytes}
+use Rattle.keep.specs.Keep.{keepOf, keepingNumber}
+use Rattle.carry.specs.Stamp.{carryOf, carryingNumber}
+use Rattle.carry.specs.declared.stamp.Carried.{Carried}
+use Rattle.state_bytes.specs.Results.{refusal}
+use Rattle.state_bytes.specs.State.{stateBytes}
+use Rattle.state_bytes.specs.JoiningState.{joiningBytes, joiningImage}
+use Rattle.state_bytes.proofs.JoiningLaws.{joining-images}
+use Rattle.server_bytes.specs.Start.{startAt}
+use Rattle.tablet_bytes.specs.Calls.{JoinedBytes, joinResult, keepAt, carrying, stampAfter, carryAt}
+use Rattle.theorems_calls.proofs.JoinedLaws.{keeps-ranges}
+use Rattle.theorems_entry.proofs.PromiseLaws.{composes}
+use Rattle.theorems_reports.specs.World.{World, newWorld, runOf}
+use Rattle.theorems_reports.specs.Hearing.{Hearing}
+use Rattle.theorems_reports.proofs.ReportLaws.{calm-calls}
+use Rattle.theorems_bytes.specs.World.{ByteWorld, ByteCall, racpWrite, stepAt, callsOf, imageIn}
+use Rattle.theorems_bytes.specs.Reports.{AcceptedAt, hearingAt}
+use Rattle.theorems_bytes.proofs.ImageLaws.{Fit, reached, reached-fit}
+use Rattle.theorems_bytes.proofs.ReportLaws.{accepted-is, heard-is}
+use Rattle.theorems_copies.specs.Copies.{Copy, copy, keepHeard, keepAll, copyOf, CopyOf}
+use Rattle.theorems_copies.specs.CopiesAt.{zeroB, afterKeepingAt, keepHeardAt, keepAllAt, copyAt, FetchedCopyAt, CarriedOverCopyAt}
+use Rattle.theorems_copies.proofs.CopyLaws.{fetched-copy, carried-over-copy}
+
+zero-number : (n : ℕ) → zeroB (refusal n) ≡ eqb n 0
+zero-number zero = refl
+zero-number (suc n) = sym (ne-eqb (suc n) 0 (λ e. omega arith))
+
+-- one answer of joining
+keeps-heard : (c : Copy) {j : Joining} {n : List ℕ} {x : Joined} → Joins j n x
+    → keepHeardAt c (joiningImage (x .joining)) (joinResult (x .answer) (x .joining .len)) ≡ keepHeard c (x .answer) (x .joining)
+unfolding joiningImage keepAt
+keeps-heard c (refuses h) = refl
+keeps-heard c (goes-on t l) = refl
+keeps-heard c {j} {n} {x} (ends t l) =
+    let k = length-drop 1 n in
+    let b : List ℕ = joinedIn (x .joining) in
+    rw (ne-eqb (lenAfter j n) 0 (λ z. omega (arith, t .filled)))
+    (ap (λ (f : Bool). copy (keepOf (c .table) b .table) (both (c .fine) f)) (zero-number (keepingNumber (keepOf (c .table) b .answer))))
+
+keeps-all : (ns : List (List ℕ)) (c : Copy) (j : Joining) → length (j .bytes) ≡ mostBytes → keepAllAt c (joiningImage j) ns ≡ keepAll c j ns
+unfolding keepAllAt keepAll
+keeps-all [] c j h = refl
+keeps-all (n ∷ ns) c j h =
+    ap (λ (x : JoinedBytes). keepAllAt (keepHeardAt c (x .joining) (x .result)) (x .joining) ns) (composes .join j h n)
+    ∙ ap (λ (x : Copy). keepAllAt x (joiningImage (joinOf j n .joining)) ns) (keeps-heard c (join-is j n))
+    ∙ keeps-all ns (keepHeard c (joinOf j n .answer) (joinOf j n .joining)) (joinOf j n .joining) (keeps-ranges .bytes j n h)
+
+start-table : (z u : List ℕ) → length z ≡ stateBytes → sizeB (length u) ≡ true → startAt z u .table ≡ fresh (slotsIn (length u))
+unfolding startAt newReaderOf startOf
+start-table z u hz hu = rw (eq-eqb (length z) stateBytes hz, hu)
+
+copy-is : (z u : List ℕ) (notes : List (List ℕ)) → length z ≡ stateBytes → sizeB (length u) ≡ true → copyAt z u notes ≡ copyOf (slotsIn (length u)) notes
+copy-is z u notes hz hu =
+    ap (λ (t : List ℕ). keepAllAt (copy t true) (replicate joiningBytes 0) notes) (start-table z u hz hu)
+    ∙ ap (λ (j : List ℕ). keepAllAt (copy (fresh (slotsIn (length u))) true) j notes) (sym (joining-images .zeros))
+    ∙ keeps-all notes (copy (fresh (slotsIn (length u))) true) emptyJoining empty-bytes
+
+-- the same at the image of a world
+module _ (v : World) (x : Fit v) (w o : List ℕ) (hw : Bytes w) (ks : List ByteCall) (z u : List ℕ) (hz : length z ≡ stateBytes)
+    (hu : sizeB (length u) ≡ true) where
+  Fetches : ByteWorld → Type 0
+  Fetches b = AcceptedAt b w o hw All → hearingAt (stepAt b (racpWrite w o hw)) ks .closed ≡ true
+      → let c = copyAt z u (hearingAt (stepAt b (racpWrite w o hw)) ks .notes) in (c .fine ≡ true) × CopyOf (slotsIn (length u)) (b .table) (c .table)

@@ -1,0 +1,56 @@
+-- The same as the tablet's C code sees it: `dts_join` over its 48 bytes, `dts_keep` over the copy's table, `dts_carry` over either table.
+use mathlib.Core.Path.{_≡_}
+use mathlib.Core.Bool.{Bool, true, false}
+use mathlib.Core.List.{List, [], _∷_}
+use Prim.Native.Nat.{ℕ, _≤_}
+use lib.Dec.{eqb}
+use lib.IntN.{ℤ, pos, negsuc}
+use lib.ListN.{length, replicate}
+use Rattle.octets.specs.Choice.{both, pick}
+use Rattle.octets.specs.Parts.{part, Bytes}
+use Rattle.filter.specs.declared.filter.Filter.the-variants.{All}
+use Rattle.table.specs.Table.{next, slotsIn, sizeB, soundB}
+use Rattle.carry.specs.Stamp.{laterOf}
+use Rattle.state_bytes.specs.State.{stateBytes}
+use Rattle.state_bytes.specs.JoiningState.{joiningBytes}
+use Rattle.server_bytes.specs.Start.{startAt}
+use Rattle.tablet_bytes.specs.Calls.{joinAt, KeptBytes, keepAt, carryAt}
+use Rattle.theorems_reports.specs.Hearing.{allCalmB}
+use Rattle.theorems_bytes.specs.World.{ByteCall, racpWrite, stepAt, runAt, startedAt, callsOf}
+use Rattle.theorems_bytes.specs.Reports.{hearingAt, AcceptedAt}
+use Rattle.theorems_copies.specs.Copies.{Copy, copy, CopyOf}
+
+-- the result 0
+abbrev pub zeroB : ℤ → Bool
+zeroB (pos n) = eqb n 0
+zeroB (negsuc n) = false
+
+abbrev pub afterKeepingAt : Bool → KeptBytes → Copy
+afterKeepingAt f k = copy (k .table) (both f (zeroB (k .result)))
+
+-- "0 more to come, 1 to 45: a whole record of that length stands in joining", from its byte 3 on: it is kept
+abbrev pub keepHeardAt : Copy → List ℕ → ℤ → Copy
+keepHeardAt c j (pos n) = pick (eqb n 0) c (afterKeepingAt (c .fine) (keepAt (c .table) (part j 3 n)))
+keepHeardAt c j (negsuc n) = copy (c .table) false
+
+unfoldable pub keepAllAt : Copy → List ℕ → List (List ℕ) → Copy
+keepAllAt c j [] = c
+keepAllAt c j (n ∷ ns) = keepAllAt (keepHeardAt c (joinAt j n .joining) (joinAt j n .result)) (joinAt j n .joining) ns
+
+-- a copy in the buffer u, which `dts_start` makes a new table of, from a joining state of zeros
+abbrev pub copyAt : List ℕ → List ℕ → List (List ℕ) → Copy
+copyAt z u notes = keepAllAt (copy (startAt z u .table) true) (replicate joiningBytes 0) notes
+
+-- Theorem Fetched copy, over bytes, from start: any entry points, then a report of all records that was accepted, then any without a disconnect, a
+-- fault and an Abort, up to the closing response.
+abbrev pub FetchedCopyAt : Type 0
+FetchedCopyAt = (s t : List ℕ) (before : List ByteCall) (w o : List ℕ) (hw : Bytes w) (ks : List ByteCall) (z u : List ℕ)
+    → length s ≡ stateBytes → sizeB (length t) ≡ true → length z ≡ stateBytes → sizeB (length u) ≡ true
+    → let b = runAt (startedAt s t) before in
+    AcceptedAt b w o hw All → allCalmB (callsOf ks) ≡ true → hearingAt (stepAt b (racpWrite w o hw)) ks .closed ≡ true
+    → let c = copyAt z u (hearingAt (stepAt b (racpWrite w o hw)) ks .notes) in (c .fine ≡ true) × CopyOf (slotsIn (length u)) (b .table) (c .table)
+
+-- `dts_carry` over a copy leaves the result and the stamp that it leaves over the reader's own table, wherever the copy has a slot for each later record.
+abbrev pub CarriedOverCopyAt : Type 0
+CarriedOverCopyAt = (n : ℕ) (t u : List ℕ) → soundB t ≡ true → CopyOf n t u → (stamp q : ℕ) (y : ℤ) → laterOf (next t) q ≤ n
+    → carryAt stamp q u y ≡ carryAt stamp q t y
