@@ -25,6 +25,7 @@ enum Function {
     Notify,
     Join,
     Read,
+    Keep,
     Carry,
     DeviceTime,
     Feature,
@@ -188,6 +189,10 @@ impl Reader for Archive {
             *field = u32::from_le_bytes(bytes.try_into().expect("four bytes"));
         }
         answer
+    }
+
+    fn keep(&self, table: &mut [u8], bytes: &[u8]) -> i32 {
+        self.call(Function::Keep, &mut [Lent(table), Shown(bytes)])
     }
 
     fn carry(&self, stamp: u32, q: u16, table: &[u8], carried: &mut i64) -> i32 {

@@ -1,5 +1,5 @@
 //! A reader of the Device Time Service: its clock, its Time Change Log, its two control points,
-//! segmented notifications, and the tablet's joining, reading and carrying.
+//! segmented notifications, and the tablet's joining, reading, keeping and carrying.
 //!
 //! This is the build paper in ordinary Rust, written to be read and to be compared with. Every
 //! call works on the byte images of the C boundary and has an answer for every input.
@@ -17,6 +17,7 @@
 //! | `access` | RACP |
 //! | `notify` | notifications of a running report |
 //! | `joining` | the tablet's joining |
+//! | `keep` | the tablet's own copy of a log; not in the paper |
 //! | `carry` | Carrying a stamp |
 //! | `listing` | the listing program's lines |
 //! | `report` | the lines of a whole report over the air |
@@ -35,6 +36,7 @@ pub mod carry;
 pub mod clock;
 pub mod image;
 pub mod joining;
+pub mod keep;
 pub mod listing;
 pub mod mutants;
 pub mod notify;

@@ -614,8 +614,9 @@ impl Maker {
             68..=70 => self.some_switches(),
             71 => Call::Disconnect,
             72..=79 => self.some_carry(world),
-            80..=85 => Call::Read(self.record_bytes(world)),
-            86..=91 => Call::Join(self.notification(world)),
+            80..=84 => Call::Read(self.record_bytes(world)),
+            85..=87 => Call::Keep(self.kept_bytes(world)),
+            88..=91 => Call::Join(self.notification(world)),
             92..=93 => Call::DeviceTime,
             94 => Call::Feature,
             95 => Call::Parameters,
@@ -776,6 +777,20 @@ impl Maker {
         }
         let end = (1 + usize::from(slot[0])).min(SLOT_BYTES);
         slot[1..end].to_vec()
+    }
+
+    /// Bytes to keep in the table: a record, mostly with the next number, or what else is read.
+    fn kept_bytes(&mut self, world: &World) -> Vec<u8> {
+        if world.table.len() < HEADER_BYTES || self.random.one_in(6) {
+            return self.record_bytes(world);
+        }
+        let next = u16_at(&world.table, 8);
+        let (before, after) = (next.wrapping_sub(1), next.wrapping_add(1));
+        let number = self.random.pick(&[next, next, next, before, after, 0, 65_535]);
+        let mut bytes = vec![0; SLOT_BYTES];
+        let length = record::write(&some_record(&mut self.random, number), &mut bytes);
+        bytes.truncate(length);
+        bytes
     }
 
     /// A segment that follows what is joined so far, mostly.

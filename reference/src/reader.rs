@@ -3,7 +3,7 @@
 use crate::clock::Switches;
 use crate::numbers::{Numbers, PAPER};
 use crate::refusal::{self, Refusal};
-use crate::{access, carry, clock, image, joining, notify, record, update};
+use crate::{access, carry, clock, image, joining, keep, notify, record, update};
 
 /// A reader as a C caller sees it. Answers of at least 0 mean done (bytes written), answers
 /// below 0 are minus the paper's refusal number. A refusal leaves every buffer untouched, but
@@ -29,6 +29,8 @@ pub trait Reader {
     fn join(&self, joining: &mut [u8], notification: &[u8]) -> i32;
     /// Refuses 11.
     fn read(&self, bytes: &[u8], fields: &mut [u32; 11]) -> i32;
+    /// Refuses 1, 11, 23.
+    fn keep(&self, table: &mut [u8], bytes: &[u8]) -> i32;
     /// Refuses 1, 12, 13, 14.
     fn carry(&self, stamp: u32, q: u16, table: &[u8], carried: &mut i64) -> i32;
     /// Refuses 1, 2, 3.
@@ -110,6 +112,10 @@ impl Reader for Reference {
         };
         *fields = record::fields(&record);
         0
+    }
+
+    fn keep(&self, table: &mut [u8], bytes: &[u8]) -> i32 {
+        answer(keep::keep(&self.numbers, table, bytes))
     }
 
     fn carry(&self, stamp: u32, q: u16, table: &[u8], carried: &mut i64) -> i32 {

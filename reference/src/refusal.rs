@@ -16,6 +16,8 @@ pub enum Refusal {
     LaterRecordNotHeld = 12,
     FaultAmongThem = 13,
     OutsideSigned64 = 14,
+    // Not the paper's, but of the call that it leaves to us: keeping.
+    DoesNotFollow = 23,
 }
 
 impl Refusal {

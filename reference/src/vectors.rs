@@ -178,6 +178,7 @@ fn named_call(line: &Line) -> Result<Call, String> {
         "notify" => Call::Notify(number(&words[0])?),
         "join" => Call::Join(hex(words)?),
         "read" => Call::Read(hex(words)?),
+        "keep" => Call::Keep(hex(words)?),
         "carry" => Call::Carry(number(&words[0])?, number(&words[1])?),
         "device_time" => Call::DeviceTime,
         "feature" => Call::Feature,

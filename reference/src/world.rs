@@ -44,6 +44,7 @@ pub enum Call {
     Read(Vec<u8>),
     /// Reads the record that stands in the joining state.
     ReadJoined,
+    Keep(Vec<u8>),
     Carry(u32, u16),
     DeviceTime,
     Feature,
@@ -98,6 +99,7 @@ impl World {
                 let length = joining.get(2).map_or(0, |length| usize::from(*length));
                 reader.read(joining.get(3..3 + length).unwrap_or(&[]), fields)
             }
+            Call::Keep(bytes) => reader.keep(table, bytes),
             Call::Carry(stamp, q) => reader.carry(*stamp, *q, table, carried),
             Call::DeviceTime => reader.device_time(state, table, out),
             Call::Feature => reader.feature(out),

@@ -41,6 +41,7 @@ fn name(call: &Call) -> &'static str {
         Call::Notify(_) => "notify",
         Call::Join(_) | Call::JoinSegment => "join",
         Call::Read(_) | Call::ReadJoined => "read",
+        Call::Keep(_) => "keep",
         Call::Carry(..) => "carry",
         Call::DeviceTime => "device_time",
         Call::Feature => "feature",
@@ -95,6 +96,18 @@ impl Seen {
             }
             Call::Notify(_) => drop(self.closings.insert(out[0])),
             Call::ReadJoined if answer == 0 => drop(self.events.insert("joined record read")),
+            Call::Keep(bytes) => {
+                let (slots, held) = (u16_at(&before.table, 0), u16_at(&before.table, 2));
+                if held == 0 && u16_at(bytes, 0) != u16_at(&before.table, 8) {
+                    self.events.insert("any number kept first");
+                }
+                if held == slots {
+                    self.events.insert("oldest overwritten by a record kept");
+                }
+                if u16_at(&after.table, 8) == 0 {
+                    self.events.insert("number 65,535 kept");
+                }
+            }
             Call::Carry(_, q) => {
                 let next = u16_at(&before.table, 8);
                 if next < *q {
@@ -133,7 +146,7 @@ fn sequences_reach_everything() {
         }
     });
 
-    let rows: [(&str, &[i32]); 15] = [
+    let rows: [(&str, &[i32]); 16] = [
         ("start", &[0, 1, 2]),
         ("seconds", &[0, 2, 7]),
         ("switches", &[0, 2]),
@@ -144,6 +157,7 @@ fn sequences_reach_everything() {
         ("notify", &[0, 1, 2, 3, 8]),
         ("join", &[0, 10]),
         ("read", &[0, 11]),
+        ("keep", &[0, 1, 11, 23]),
         ("carry", &[0, 1, 12, 13]),
         ("device_time", &[0, 1, 2, 3]),
         ("feature", &[0, 3]),
@@ -180,6 +194,9 @@ fn sequences_reach_everything() {
             "carried over the roll",
             "carried below 0",
             "number 65,535 logged",
+            "any number kept first",
+            "oldest overwritten by a record kept",
+            "number 65,535 kept",
         ])
     );
 }

@@ -1,5 +1,5 @@
-//! Two promises over many calls, checked without looking into the reference: what a finished
-//! report hands over, and what a carried stamp tells.
+//! Three promises over many calls, checked without looking into the reference: what a finished
+//! report hands over, what a copy kept of it is, and what a carried stamp tells.
 
 use reference::octets::{u16_at, u32_at};
 use reference::random::{planned_table, Plan, Random};
@@ -100,6 +100,34 @@ fn finished_report(reader: &dyn Reader, seed: u64) {
     }
 }
 
+/// The records of a log of any numbers, kept one after the other in a copy of any size.
+fn kept_copy(reader: &dyn Reader, seed: u64) {
+    let mut random = Random::new(seed);
+    let (slots, copied) = (random.pick(&SLOTS), random.pick(&SLOTS));
+    let next = random.pick(&[0, 2, 20, 65_535, 40_000]);
+    let (held_count, oldest) = (1 + random.below(slots), random.below(slots));
+    let table = planned_table(&Plan { slots, held: held_count, oldest, next, seed });
+    let mut copy = planned_table(&Plan { slots: copied, held: 0, oldest: 0, next: 7, seed });
+    let records = held(&table);
+    for record in &records {
+        assert_eq!(reader.keep(&mut copy, record), 0, "seed {seed}");
+    }
+    let fit = records.len().min(copied);
+    assert_eq!(held(&copy), records[records.len() - fit..], "seed {seed}");
+    assert_eq!(u16_at(&copy, 8), next, "seed {seed}");
+
+    // Stamps are carried by the copy as by the log, as far back as it reaches.
+    for back in 0..=records.len() {
+        let q = next.wrapping_sub(back as u16);
+        let (mut by_log, mut by_copy) = (0, 0);
+        let answer = reader.carry(800_000_000, q, &table, &mut by_log);
+        let expected = if back <= fit { answer } else { -12 };
+        let answer = reader.carry(800_000_000, q, &copy, &mut by_copy);
+        assert_eq!(answer, expected, "seed {seed}, {back} back");
+        assert!(answer < 0 || by_copy == by_log, "seed {seed}, {back} back");
+    }
+}
+
 /// What happened to the clock since the stamp.
 #[derive(Default)]
 struct Since {
@@ -172,6 +200,11 @@ fn carried_stamp(reader: &dyn Reader, seed: u64) {
 #[test]
 fn a_finished_report_hands_over_exactly_the_matching_records() {
     (1..=2_000).for_each(|seed| finished_report(&Reference::new(), seed));
+}
+
+#[test]
+fn a_copy_kept_of_a_log_is_its_newest_records() {
+    (1..=2_000).for_each(|seed| kept_copy(&Reference::new(), seed));
 }
 
 #[test]

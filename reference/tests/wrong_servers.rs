@@ -21,9 +21,11 @@ enum Wrong {
     CarriesNothing,
     AlwaysRefusesToCarry,
     SubtractsUnsigned,
+    KeepsFrom0Only,
+    KeepsAnyNumber,
 }
 
-const ALL: [Wrong; 12] = [
+const ALL: [Wrong; 14] = [
     Wrong::RejectsEveryProposal,
     Wrong::SaysSuccessToAll,
     Wrong::NeverLogs,
@@ -36,6 +38,8 @@ const ALL: [Wrong; 12] = [
     Wrong::CarriesNothing,
     Wrong::AlwaysRefusesToCarry,
     Wrong::SubtractsUnsigned,
+    Wrong::KeepsFrom0Only,
+    Wrong::KeepsAnyNumber,
 ];
 
 /// The reference, with one call gone wrong.
@@ -53,6 +57,13 @@ fn newest_record(table: &[u8]) -> usize {
     let (slots, held) = (usize::from(u16_at(table, 0)), usize::from(u16_at(table, 2)));
     let oldest = (u32_at(table, 4) as usize - 16) / 64;
     17 + 64 * ((oldest + held + slots - 1) % slots)
+}
+
+fn u16_at_or_0(bytes: &[u8], at: usize) -> u16 {
+    if bytes.len() < at + 2 {
+        return 0;
+    }
+    u16_at(bytes, at)
 }
 
 impl Reader for WrongReader {
@@ -136,6 +147,26 @@ impl Reader for WrongReader {
             _ => {}
         }
         answer
+    }
+
+    fn keep(&self, table: &mut [u8], bytes: &[u8]) -> i32 {
+        let mut to = table.to_vec();
+        match self.wrong {
+            // As a table that is only logged in would take it.
+            Wrong::KeepsFrom0Only
+                if u16_at_or_0(table, 2) == 0 && u16_at_or_0(bytes, 0) != u16_at_or_0(table, 8) =>
+            {
+                let answer = self.right.keep(&mut to, bytes);
+                return if answer == 0 { -23 } else { answer };
+            }
+            Wrong::KeepsAnyNumber if self.right.keep(&mut to, bytes) == -23 => {
+                let mut numbered = bytes.to_vec();
+                put_u16(&mut numbered, 0, u16_at(table, 8));
+                return self.right.keep(table, &numbered);
+            }
+            _ => {}
+        }
+        self.right.keep(table, bytes)
     }
 
     fn start(&self, state: &mut [u8], table: &mut [u8]) -> i32 {

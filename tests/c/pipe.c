@@ -32,7 +32,7 @@ struct argument {
 
 /* For each function its arguments: n a number, b a buffer. */
 static const char *const functions[] = {
-    "bb", "bn", "bnnn", "b", "bbb", "bbbb", "bbbb", "bbnb", "bb", "bb", "nnbb", "bbb", "b", "b", "n",
+    "bb", "bn", "bnnn", "b", "bbb", "bbbb", "bbbb", "bbnb", "bb", "bb", "bb", "nnbb", "bbb", "b", "b", "n",
 };
 
 static struct argument arguments[MOST_ARGUMENTS];
@@ -110,10 +110,11 @@ static int32_t call(unsigned function)
     case 7: return dts_notify(BUFFER(0), BUFFER(1), NUMBER(2), BUFFER(3));
     case 8: return dts_join(BUFFER(0), BUFFER(1));
     case 9: return dts_read(BUFFER(0), (uint32_t *)(void *)arguments[1].bytes);
-    case 10: return dts_carry(NUMBER(0), (uint16_t)NUMBER(1), BUFFER(2), (int64_t *)(void *)arguments[3].bytes);
-    case 11: return dts_device_time(BUFFER(0), BUFFER(1), BUFFER(2));
-    case 12: return dts_feature(BUFFER(0));
-    case 13: return dts_parameters(BUFFER(0));
+    case 10: return dts_keep(BUFFER(0), BUFFER(1));
+    case 11: return dts_carry(NUMBER(0), (uint16_t)NUMBER(1), BUFFER(2), (int64_t *)(void *)arguments[3].bytes);
+    case 12: return dts_device_time(BUFFER(0), BUFFER(1), BUFFER(2));
+    case 13: return dts_feature(BUFFER(0));
+    case 14: return dts_parameters(BUFFER(0));
     default: return dts_att_error(NUMBER(0));
     }
 }

@@ -1,6 +1,6 @@
 /*
- * The tablet, and one afternoon of it: it speaks to the reader only through the link of radio.h, joins, reads
- * and carries with the library, and holds every value against constants worked out from the papers' cases
+ * The tablet, and one afternoon of it: it speaks to the reader only through the link of radio.h, joins, reads,
+ * keeps and carries with the library, and holds every value against constants worked out from the papers' cases
  * by hand. What crosses the link is printed; tests/c/radio.transcript is what should come out. Any
  * difference is printed as such, and then the program's status is not 0.
  */
@@ -181,31 +181,27 @@ enum { SLOTS = 4 };
 
 static uint8_t joining[DTS_JOINING_BYTES];
 static uint8_t copy[DTS_TABLE_BYTES(SLOTS)];
-static unsigned copied;
+static size_t copy_length;
 
-static void start_copy(unsigned next)
+/* Empty, with so many slots. */
+static void start_copy(unsigned slots)
 {
     memset(joining, 0, sizeof joining);
     memset(copy, 0, sizeof copy);
-    copied = 0;
-    copy[0] = SLOTS;
+    copy_length = DTS_TABLE_BYTES(slots);
+    copy[0] = (uint8_t)slots;
     copy[4] = DTS_HEADER_BYTES;
-    copy[8] = (uint8_t)next;
-    copy[9] = (uint8_t)(next >> 8);
 }
 
-/* The record that stands in the joining state goes into the next slot. */
-static void copy_record(size_t length)
+/* The record that stands in the joining state. */
+static int32_t keep_record(size_t length)
 {
-    if (copied == SLOTS || length > DTS_RECORD_BYTES) {
-        expect("records more than the copy holds", 1, 0);
-        return;
-    }
-    uint8_t *slot = copy + DTS_TABLE_BYTES(copied);
-    slot[0] = (uint8_t)length;
-    memcpy(slot + 1, joining + 3, length);
-    copied++;
-    copy[2] = (uint8_t)copied;
+    return dts_keep(copy, copy_length, joining + 3, length);
+}
+
+static void expect_next(unsigned next)
+{
+    expect("the copy's next number", copy[8] | copy[9] << 8, next);
 }
 
 static void print_record(size_t length)
@@ -222,14 +218,17 @@ static void take(const struct pdu *pdu)
     expect("a segment refused", answer < 0, 0);
     if (answer > 0) {
         print_record((size_t)answer);
-        copy_record((size_t)answer);
+        expect("keeping a record", keep_record((size_t)answer), 0);
     }
 }
 
-/* Fetches records into the copy: a request, its notifications in hexadecimal, the closing response. */
-static void fetch(unsigned next, const char *request, const char *const *segments, const char *closing)
+/*
+ * Fetches records into a copy of so many slots: a request, its notifications in hexadecimal, the closing
+ * response. The copy's next number is then the reader's.
+ */
+static void fetch_into(unsigned slots, unsigned next, const char *request, const char *const *segments, const char *closing)
 {
-    start_copy(next);
+    start_copy(slots);
     expect_written(HANDLE_RACP, request);
     for (; *segments != NULL; segments++) {
         struct pdu pdu = expect_segment(*segments);
@@ -237,12 +236,18 @@ static void fetch(unsigned next, const char *request, const char *const *segment
     }
     expect_indication(HANDLE_RACP, closing);
     expect_quiet();
+    expect_next(next);
+}
+
+static void fetch(unsigned next, const char *request, const char *const *segments, const char *closing)
+{
+    fetch_into(SLOTS, next, request, segments, closing);
 }
 
 static void expect_carried(uint32_t stamp, uint16_t q, int32_t refusal, int64_t expected)
 {
     int64_t carried = 0;
-    expect("carrying", -dts_carry(stamp, q, copy, sizeof copy, &carried), refusal);
+    expect("carrying", -dts_carry(stamp, q, copy, copy_length, &carried), refusal);
     expect("the carried stamp", carried, expected);
     if (refusal != 0)
         printf("tablet  stamp %u with number %u: refused %d\n", (unsigned)stamp, q, (int)refusal);
@@ -374,6 +379,29 @@ static void the_ends_of_the_ranges(void)
     expect_read(HANDLE_DEVICE_TIME, "0008af2f" "80" "00" "1200" "0800");
 }
 
+/* Numbers 4 to 7: any number may come first into a copy, and a shorter copy has the newest. */
+static void a_log_in_use(void)
+{
+    static const char *const four_records[] = {
+        "03" "04000100000016001600010004000201" "7f1319bc" "809d9e25",
+        "07" "05000100000016001600010038000201" "0008af2f" "7f1319bc",
+        "0b" "060001000000160016000100d0000201" "0008af2f" "0008af2f",
+        "0f" "07000100000012001600010080000201" "0008af2f" "0008af2f",
+        NULL,
+    };
+    printf("- a log that no longer begins at 0\n");
+    reconnect(25 + ATT_HEADER);
+    fetch(8, "0101", four_records, "06000101");
+    expect_carried(631152000, 4, 0, 800000000);
+    expect_carried(631152000, 3, DTS_REFUSED_NOT_HELD, 0);
+    fetch_into(2, 8, "0101", four_records, "06000101");
+    expect_carried(800000000, 6, 0, 800000000);
+    expect_carried(800000000, 5, DTS_REFUSED_NOT_HELD, 0);
+    expect("keeping the newest again", keep_record(DTS_TIME_UPDATE_BYTES), -DTS_REFUSED_NOT_NEXT);
+    expect("keeping a part of it", keep_record(DTS_TIME_FAULT_BYTES), -DTS_REFUSED_RECORD);
+    expect_next(8);
+}
+
 /* Nothing more of the report comes, and what is switched on has to be switched on again. */
 static void the_tablet_goes(void)
 {
@@ -395,6 +423,7 @@ int main(void)
     writes_during_a_report();
     a_time_fault();
     the_ends_of_the_ranges();
+    a_log_in_use();
     the_tablet_goes();
     printf("%d differences\n", differences);
     return differences != 0;

@@ -1,8 +1,8 @@
 /*
  * The stack that each entry point uses, in bytes: the memory below the caller is painted, the call made, and
  * the lowest byte that changed looked for. Calls go the long way: a full table of 1,023 slots, a running
- * report, a record that is joined, read, carried. One line each, exact to the 16 bytes by which frames are
- * laid out; above SKIPPED nothing is painted, since the painter
+ * report, a record that is joined, read, kept, carried. One line each, exact to the 16 bytes by which frames
+ * are laid out; above SKIPPED nothing is painted, since the painter
  * itself stands there: 192 means so much or less.
  */
 #include "check.h"
@@ -11,7 +11,7 @@
 enum { PAINTED = 1 << 16, SKIPPED = 192, PAINT = 0xA5, SLOTS = DTS_MOST_SLOTS };
 
 static uint8_t state[DTS_STATE_BYTES], joining[DTS_JOINING_BYTES], out[DTS_LARGEST_PAYLOAD];
-static uint8_t table[DTS_TABLE_BYTES(SLOTS)];
+static uint8_t table[DTS_TABLE_BYTES(SLOTS)], copy[DTS_TABLE_BYTES(SLOTS)];
 static uint32_t fields[DTS_FIELDS];
 static int64_t carried;
 static int32_t answer;
@@ -44,6 +44,7 @@ static void parameters(void) { answer = dts_parameters(out, sizeof out); }
 static void att_error(void) { answer = dts_att_error(6); }
 static void join(void) { answer = dts_join(joining, sizeof joining, out, DTS_TIME_UPDATE_BYTES + 1); }
 static void read_record(void) { answer = dts_read(joining + 3, DTS_TIME_UPDATE_BYTES, fields); }
+static void keep(void) { answer = dts_keep(copy, sizeof copy, joining + 3, DTS_TIME_UPDATE_BYTES); }
 static void carry(void) { answer = dts_carry(800000000, 1, table, sizeof table, &carried); }
 
 /* Calls go through this, so that none is inlined here. */
@@ -77,6 +78,13 @@ static void measure(const char *name, void (*entry)(void), int32_t expected)
     printf("%-16s %ld\n", name, (long)(top - low));
 }
 
+/* The tablet has all of the log, and the record that was joined is the one to come. */
+static void copy_log(void)
+{
+    memcpy(copy, table, sizeof copy);
+    memcpy(joining + 3, copy + 8, 2);
+}
+
 int main(void)
 {
     start(); /* the loader finds memset and memcpy at their first call, on this stack too */
@@ -91,6 +99,8 @@ int main(void)
     measure("dts_notify", notify, DTS_TIME_UPDATE_BYTES + 1);
     measure("dts_join", join, DTS_TIME_UPDATE_BYTES);
     measure("dts_read", read_record, 0);
+    copy_log();
+    measure("dts_keep", keep, 0);
     measure("dts_carry", carry, 0);
     measure("dts_device_time", device_time, DTS_DEVICE_TIME_BYTES);
     measure("dts_feature", feature, DTS_FEATURE_BYTES);

@@ -43,6 +43,7 @@ use Rattle.joining.specs.declared.joining.Answer.the-variants.{More, Whole, Ref
 use Rattle.joining.specs.declared.joining.Joined.{Joined}
 use Rattle.joining.specs.declared.joining.Joining.{Joining}
 use Rattle.theorems_calls.proofs.JoinedLaws as tablet
+use Rattle.keep.proofs.KeepLaws as keep
 use Rattle.carry.specs.Stamp.{carryOf}
 use Rattle.carry.specs.Stamp as carry
 use Rattle.carry.specs.declared.stamp.Carried.{Carried}
@@ -59,7 +60,7 @@ use Rattle.server_bytes.specs.Start.{StartedBytes, startedBytes, shortOf, begun
 use Rattle.server_bytes.specs.Events.{eventful, onB, secondsAt, switchesAt, disconnectAt}
 use Rattle.server_bytes.specs.Calls.{Called, called, replied, notified, faultAt, dtcpAt, racpAt, notifyAt}
 use Rattle.server_bytes.specs.ValuesRead.{answeredBytes, deviceTimeAt, featureAt, parametersAt}
-use Rattle.tablet_bytes.specs.Calls.{JoinedBytes, joinResult, joined, joinedBytes, joinAt, readAt, numbersAfter, carryAt, stampAfter}
+use Rattle.tablet_bytes.specs.Calls.{JoinedBytes, joinResult, joined, joinedBytes, joinAt, readAt, numbersAfter, keepAt, carryAt, stampAfter}
 use Rattle.firmware.specs.Errors.{attErrorAt}
 use Rattle.theorems_entry.specs.Theorems.{RefusedUnchanged, Composes, Errors}
 use Rattle.server_bytes.proofs.ResultLaws.{result-done}
@@ -151,10 +152,14 @@ joins-below j b n = go (eqb (length j) joiningBytes) refl
         ∙ ap (λ (m : ℕ). replicate m 0) (sym (eqb-true (length j) joiningBytes e))
     go false e h = refl
 
--- reading and carrying
+-- reading, keeping and carrying
 read-below : (f : List ℕ) (n : ℕ) (r : Reading) → refusal (wellFormed.readingNumber r) ≡ negsuc n → numbersAfter f r ≡ f
 read-below f n (Is r) h = absurd (pos-ne-negsuc 0 n h)
 read-below f n readings.Refused h = refl
+
+keep-below : (t b : List ℕ) (n : ℕ) → keepAt t b .result ≡ negsuc n → keepAt t b .table ≡ t
+unfolding keepAt
+keep-below t b n h = keep.refused-unchanged t b (λ e. pos-ne-negsuc 0 n (sym (ap refusal e) ∙ h))
 
 carry-below : (z : ℤ) (n : ℕ) (r : Carried) → refusal (carry.carryingNumber r) ≡ negsuc n → stampAfter z r ≡ z
 unfolding carry.carryingNumber
@@ -181,6 +186,7 @@ unchanged =
       parameters = λ o n h. values.refused-unchanged .parameters o (below _ _ n h);
       join = joins-below;
       read = λ b f n. read-below f n (readOf b);
+      keep = keep-below;
       carry = λ stamp q t z n. carry-below z n (carryOf stamp q t);
     }
 

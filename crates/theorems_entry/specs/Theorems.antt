@@ -31,7 +31,7 @@ use Rattle.server_bytes.specs.Start.{startedBytes, shortOf, begunAt, startAt}
 use Rattle.server_bytes.specs.Events.{eventful, onB, secondsAt, switchesAt, disconnectAt}
 use Rattle.server_bytes.specs.Calls.{Called, called, replied, notified, faultAt, dtcpAt, racpAt, notifyAt}
 use Rattle.server_bytes.specs.ValuesRead.{shown, answeredBytes, deviceTimeAt, featureAt, parametersAt}
-use Rattle.tablet_bytes.specs.Calls.{joinedBytes, joinAt, readAt, carryAt}
+use Rattle.tablet_bytes.specs.Calls.{joinedBytes, joinAt, readAt, keepAt, carryAt}
 use Rattle.firmware.specs.Errors.{attErrorAt}
 
 -- "A refusal leaves state, log and output untouched": where the result is below 0, all that is lent is as it was; "10 empties the joining
@@ -50,6 +50,7 @@ pub record RefusedUnchanged : Type 0 where
   pub parameters : (o : List ℕ) (n : ℕ) → parametersAt o .result ≡ negsuc n → parametersAt o .output ≡ o
   pub join : (j b : List ℕ) (n : ℕ) → joinAt j b .result ≡ negsuc n → joinAt j b .joining ≡ replicate (length j) 0
   pub read : (b f : List ℕ) (n : ℕ) → readAt b f .result ≡ negsuc n → readAt b f .fields ≡ f
+  pub keep : (t b : List ℕ) (n : ℕ) → keepAt t b .result ≡ negsuc n → keepAt t b .table ≡ t
   pub carry : (stamp q : ℕ) (t : List ℕ) (z : ℤ) (n : ℕ) → carryAt stamp q t z .result ≡ negsuc n → carryAt stamp q t z .carried ≡ z
 
 -- "another length or encoding is refusal 2": what is answered where the state is no image, and else the call on the clock that stands there

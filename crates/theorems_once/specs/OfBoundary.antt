@@ -27,6 +27,8 @@ use Rattle.firmware.proofs.tablet_calls.dts_join.Kinds as join-kinds
 use Rattle.firmware.proofs.tablet_calls.dts_join.Reads as join-reads
 use Rattle.firmware.proofs.tablet_calls.dts_read.Kinds as read-kinds
 use Rattle.firmware.proofs.tablet_calls.dts_read.Reads as read-reads
+use Rattle.firmware.proofs.tablet_calls.dts_keep.Kinds as keep-kinds
+use Rattle.firmware.proofs.tablet_calls.dts_keep.Reads as keep-reads
 use Rattle.firmware.proofs.tablet_calls.dts_carry.Kinds as carry-kinds
 use Rattle.firmware.proofs.tablet_calls.dts_carry.Reads as carry-reads
 use Rattle.firmware.proofs.errors.dts_att_error.Kinds as att-error-kinds
@@ -54,6 +56,7 @@ pub record OneOutcome : Type 0 where
   pub parameters : Door parameters-kinds.ps parameters-kinds.r parameters-reads.Pre parameters-reads.Post
   pub join : Door join-kinds.ps join-kinds.r join-reads.Pre join-reads.Post
   pub read : Door read-kinds.ps read-kinds.r read-reads.Pre read-reads.Post
+  pub keep : Door keep-kinds.ps keep-kinds.r keep-reads.Pre keep-reads.Post
   pub carry : Door carry-kinds.ps carry-kinds.r carry-reads.Pre carry-reads.Post
   pub att-error : Door att-error-kinds.ps att-error-kinds.r att-error-reads.Pre att-error-reads.Post
   pub image-of : Only image-of-kinds.ps image-of-kinds.r image-of-reads.Pre image-of-reads.Post

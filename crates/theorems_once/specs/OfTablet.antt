@@ -8,6 +8,10 @@ use Rattle.joining.proofs.joining.joining_number.Kinds as number-of-kinds
 use Rattle.joining.proofs.joining.joining_number.Reads as number-of-reads
 use Rattle.joining.proofs.reading.read_joined.Kinds as read-joined-kinds
 use Rattle.joining.proofs.reading.read_joined.Reads as read-joined-reads
+use Rattle.keep.proofs.keep.keep.Kinds as keep-kinds
+use Rattle.keep.proofs.keep.keep.Reads as keep-reads
+use Rattle.keep.proofs.keep.keeping_number.Kinds as kept-number-kinds
+use Rattle.keep.proofs.keep.keeping_number.Reads as kept-number-reads
 use Rattle.carry.proofs.stamp.carry.Kinds as carry-kinds
 use Rattle.carry.proofs.stamp.carry.Reads as carry-reads
 use Rattle.carry.proofs.stamp.carrying_number.Kinds as carried-number-kinds
@@ -18,5 +22,7 @@ pub record OneOutcome : Type 0 where
   pub restart : Door restart-kinds.ps restart-kinds.r restart-reads.Pre restart-reads.Post
   pub number-of : Only number-of-kinds.ps number-of-kinds.r number-of-reads.Pre number-of-reads.Post
   pub read-joined : Door read-joined-kinds.ps read-joined-kinds.r read-joined-reads.Pre read-joined-reads.Post
+  pub keep : Door keep-kinds.ps keep-kinds.r keep-reads.Pre keep-reads.Post
+  pub kept-number : Only kept-number-kinds.ps kept-number-kinds.r kept-number-reads.Pre kept-number-reads.Post
   pub carry : Door carry-kinds.ps carry-kinds.r carry-reads.Pre carry-reads.Post
   pub carried-number : Only carried-number-kinds.ps carried-number-kinds.r carried-number-reads.Pre carried-number-reads.Post

@@ -21,6 +21,7 @@ returns c =
       parameters = (λ κs a. tt, λ κs a x y u v h p q. split p q (λ w. w .result) (λ w. (w .output, tt)));
       join = (λ κs a. tt, λ κs a x y u v h p q. split p q (λ w. w .result) (λ w. (w .joining, (tt, tt))));
       read = (λ κs a. tt, λ κs a x y u v h p q. split p q (λ w. w .result) (λ w. (tt, (w .fields, tt))));
+      keep = (λ κs a. tt, λ κs a x y u v h p q. split p q (λ w. w .result) (λ w. (w .table, (tt, tt))));
       carry = (λ κs a. tt, λ κs a x y u v h p q. split p q (λ w. w .result) (λ w. (tt, (tt, (tt, (w .carried, tt))))));
       att-error = (λ κs a. tt, λ κs a x y u v h p q. (p ∙ sym q, refl));
       image-of = λ κs a x y u v h p q. (p ∙ sym q, refl);

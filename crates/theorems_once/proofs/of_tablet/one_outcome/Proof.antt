@@ -1,6 +1,7 @@
--- Two outcomes that meet one equation are one.
+-- Two outcomes that meet one equation are one: those by value by that alone, those of a lent table by the parts of the whole (`split`).
 -- Assumes nothing.
 use mathlib.Core.Path.{refl, sym, _∙_}
+use Rattle.theorems_once.proofs.Whole.{split}
 use Rattle.theorems_once.proofs.of_tablet.one_outcome.Statement.{statement}
 use Rattle.theorems_once.proofs.of_tablet.one_outcome.Tie as tie
 
@@ -11,6 +12,8 @@ returns c =
       restart = (λ κs a. tt, λ κs a x y u v h p q. (p ∙ sym q, refl));
       number-of = λ κs a x y u v h p q. (p ∙ sym q, refl);
       read-joined = (λ κs a. tt, λ κs a x y u v h p q. (p ∙ sym q, refl));
+      keep = (λ κs a. tt, λ κs a x y u v h p q. split p q (λ w. w .answer) (λ w. (w .table, (tt, tt))));
+      kept-number = λ κs a x y u v h p q. (p ∙ sym q, refl);
       carry = (λ κs a. tt, λ κs a x y u v h p q. (p ∙ sym q, refl));
       carried-number = λ κs a x y u v h p q. (p ∙ sym q, refl);
     }
