@@ -32,7 +32,8 @@ use Rattle.tablet_bytes.specs.Calls.{JoinedBytes, joinResult, keepAt, carrying,
 use Rattle.theorems_calls.proofs.JoinedLaws.{keeps-ranges}
 use Rattle.theorems_entry.proofs.PromiseLaws.{composes}
 use Rattle.theorems_reports.specs.World.{World, newWorld, runOf}
-use Rattle.theorems_reports.specs.Hearing.{Hearing}
+use Rattle.theorems_reports.specs.Hearing.{Hearing, hearingOf, allCalmB}
+use Rattle.theorems_reports.specs.Reports.{reportBegun}
 use Rattle.theorems_reports.proofs.ReportLaws.{calm-calls}
 use Rattle.theorems_bytes.specs.World.{ByteWorld, ByteCall, racpWrite, stepAt, callsOf, imageIn}
 use Rattle.theorems_bytes.specs.Reports.{AcceptedAt, hearingAt}
@@ -76,9 +77,32 @@ copy-is z u notes hz hu =
     ∙ ap (λ (j : List ℕ). keepAllAt (copy (fresh (slotsIn (length u))) true) j notes) (sym (joining-images .zeros))
     ∙ keeps-all notes (copy (fresh (slotsIn (length u))) true) emptyJoining empty-bytes
 
--- the same at the image of a world
-module _ (v : World) (x : Fit v) (w o : List ℕ) (hw : Bytes w) (ks : List ByteCall) (z u : List ℕ) (hz : length z ≡ stateBytes)
-    (hu : sizeB (length u) ≡ true) where
-  Fetches : ByteWorld → Type 0
-  Fetches b = AcceptedAt b w o hw All → hearingAt (stepAt b (racpWrite w o hw)) ks .closed ≡ true
-      → let c = copyAt z u (hearingAt (stepAt b (racpWrite w o hw)) ks .notes) in (c .fine ≡ true) × CopyOf (slotsIn (length u)) (b .table) (c .table)
+-- what is fetched at b
+abbrev Fetches : (w o : List ℕ) → Bytes w → List ByteCall → List ℕ → List ℕ → ByteWorld → Type 0
+Fetches w o hw ks z u b = AcceptedAt b w o hw All → hearingAt (stepAt b (racpWrite w o hw)) ks .closed ≡ true
+    → let c = copyAt z u (hearingAt (stepAt b (racpWrite w o hw)) ks .notes) in (c .fine ≡ true) × CopyOf (slotsIn (length u)) (b .table) (c .table)
+
+at-image : (v : World) (w o : List ℕ) (hw : Bytes w) (ks : List ByteCall) (z u : List ℕ) → Fit v → length z ≡ stateBytes → sizeB (length u) ≡ true
+    → allCalmB (callsOf ks) ≡ true → Fetches w o hw ks z u (imageIn v)
+at-image v w o hw ks z u x hz hu calm a closed =
+    let accepted = accepted-is v w o hw All x a in
+    let heard = heard-is v w o hw ks x in
+    let n = size-reads (length u) hu in
+    let undisturbed = calm-calls v w o All (callsOf ks) (x .good .bytes) accepted calm in
+    let notes : List (List ℕ) = hearingAt (stepAt (imageIn v) (racpWrite w o hw)) ks .notes in
+    let d = fetched-copy v w o (callsOf ks) (slotsIn (length u)) (x .good .bytes) (n .some) (n .few) accepted undisturbed
+    (ap (λ (h : Hearing). h .closed) (sym heard) ∙ closed) in
+    let c : copyOf (slotsIn (length u)) (hearingOf (reportBegun v w o) (callsOf ks) .notes) ≡ copyAt z u notes =
+    ap (λ (h : Hearing). copyOf (slotsIn (length u)) (h .notes)) (sym heard) ∙ sym (copy-is z u notes hz hu) in
+    subst (λ (k : Copy). (k .fine ≡ true) × CopyOf (slotsIn (length u)) (v .table) (k .table)) c d
+
+pub fetched-copy-at : FetchedCopyAt
+fetched-copy-at s t before w o hw ks z u hs ht hz hu a calm closed =
+    let e = reached s t hs ht before in
+    subst (Fetches w o hw ks z u) (sym e)
+    (at-image (runOf (newWorld t) (callsOf before)) w o hw ks z u (reached-fit s t hs ht before) hz hu calm) a closed
+
+pub carried-over-copy-at : CarriedOverCopyAt
+unfolding carryAt
+carried-over-copy-at n t u sd k stamp q y h =
+    ap (λ (c : Carried). carrying (refusal (carryingNumber c)) (stampAfter y c)) (carried-over-copy n t u sd k stamp q h)

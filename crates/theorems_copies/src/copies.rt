@@ -1,5 +1,6 @@
 // The theorems about copies: each the promise of an empty function, so that the check asks for its proof.
 ghost use Rattle.theorems_copies.specs.Copies.{FetchedCopy, CarriedOverCopy};
+ghost use Rattle.theorems_copies.specs.CopiesAt.{FetchedCopyAt, CarriedOverCopyAt};
 ghost use Rattle.theorems_copies.specs.Cases.{Computed};
 
 // A finished report of all records, joined and kept in a new table, makes a copy of the reader's log.
@@ -10,6 +11,16 @@ pub fn fetched_copy()
 // A stamp carried over a copy that holds enough is carried as over the reader's own table.
 pub fn carried_over_copy()
     ensures { λ _. ⌜ CarriedOverCopy ⌝ }
+{}
+
+// The same over the bytes that the tablet's C code holds: what `dts_join` gives, kept by `dts_keep`.
+pub fn fetched_copy_at()
+    ensures { λ _. ⌜ FetchedCopyAt ⌝ }
+{}
+
+// What `dts_carry` leaves over a copy is what it leaves over the reader's own table.
+pub fn carried_over_copy_at()
+    ensures { λ _. ⌜ CarriedOverCopyAt ⌝ }
 {}
 
 // A log that has rolled, fetched into copies of five slots and of two, and stamps carried over them.
