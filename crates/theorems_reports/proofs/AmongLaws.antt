@@ -21,7 +21,7 @@ use Rattle.racp_notify.specs.Notify.{bit, roomB, segmentOf}
 use Rattle.theorems_reports.specs.World.{World, world, Call, seconds, switches, disconnect, fault, timeUpdate, recordAccess, notify, stepOf}
 use Rattle.theorems_reports.specs.Hearing.{Heard, nothing, segment, closing, heardOf, Hearing, hearing, onward, hearingBy, hearingOf, undisturbedB}
 use Rattle.theorems_reports.specs.Reports.{askingB, segments, Exact}
-use Rattle.theorems_reports.specs.Closing.{sizeIn, heardB, unlessClosing, answeredIn, askedIn, allOfB, allBytes, bodies, bodiedB, Begins, Closes}
+use Rattle.theorems_reports.specs.Closing.{sizeIn, heardB, unlessClosing, answeredIn, askedIn, allOfB, allBytes, bodies, bodiedB, Begins, ClosesIn}
 use Rattle.theorems_reports.proofs.RunLaws.{Runs, Told, closes, last, more, told, ending}
 use Rattle.theorems_reports.proofs.StepLaws.{Step, still, asked, ended, step}
 use Rattle.theorems_reports.proofs.HeardLaws.{room-reads, hears, closing-heard, undisturbed-still, undisturbed-ended, undisturbed-segment}
@@ -233,7 +233,7 @@ module _ (t : List ℕ) (sd : soundB t ≡ true) (hb : Bytes t) (opcode : ℕ) (
   goes (a ∷ ks) c k sent l r u = goes-step ks (goes ks) r (step t sd hb opcode f r a) u
 
   pub closes-among : (ks : List Call) (c : Clock) (l : List Record) → Runs t sd hb opcode f c 0 0 l → undisturbedB (world c t) ks ≡ true
-      → Closes l (world c t) ks
+      → ClosesIn l (world c t) ks
   closes-among ks c l r u =
       let g = goes ks c 0 0 l r u in
       record {

@@ -106,29 +106,33 @@ pub record Begins (a b : List ℕ) : Type 0 where
   pub rest : List ℕ
   pub is : a ++ rest ≡ b
 
--- A report of the records l, heard among the calls ks.
-pub record Closes (l : List Record) (v : World) (ks : List Call) : Type 0 where
+-- A report of the records l: ps are the payload sizes that were answered, qs those that were asked for, h is what was heard.
+pub record Closes (l : List Record) (ps qs : List ℕ) (h : Hearing) : Type 0 where
   -- every asking is answered 0, and nothing else
-  pub answered : answeredIn v ks ≡ askedIn v ks
+  pub answered : ps ≡ qs
   -- each of these is a segment, or the closing response
-  pub each : length (answeredIn v ks) ≡ length (hearingOf v ks .notes) + bit (hearingOf v ks .closed)
+  pub each : length ps ≡ length (h .notes) + bit (h .closed)
   -- With P the same in all of them: after as many as there are segments the next closes, and none before it.
-  pub exact : (p : ℕ) → allOfB p (answeredIn v ks) ≡ true → Exact (segments (p - 1) l) (length (answeredIn v ks)) (hearingOf v ks)
+  pub exact : (p : ℕ) → allOfB p ps ≡ true → Exact (segments (p - 1) l) (length ps) h
   -- With any sizes: each segment sends at least one byte more of the records' bytes, in their order; all are sent where it closes. That is at
   -- the latest after as many as the smallest payload size needs, and after one for each record at the earliest.
-  pub bodied : bodiedB (hearingOf v ks .notes) ≡ true
-  pub sends : Begins (bodies (hearingOf v ks .notes)) (allBytes l)
-  pub all : hearingOf v ks .closed ≡ true → bodies (hearingOf v ks .notes) ≡ allBytes l
-  pub latest : segments 19 l < length (answeredIn v ks) → hearingOf v ks .closed ≡ true
-  pub earliest : hearingOf v ks .closed ≡ true → length l < length (answeredIn v ks)
+  pub bodied : bodiedB (h .notes) ≡ true
+  pub sends : Begins (bodies (h .notes)) (allBytes l)
+  pub all : h .closed ≡ true → bodies (h .notes) ≡ allBytes l
+  pub latest : segments 19 l < length ps → h .closed ≡ true
+  pub earliest : h .closed ≡ true → length l < length ps
+
+-- heard among the calls ks from v on
+abbrev pub ClosesIn : List Record → World → List Call → Type 0
+ClosesIn l v ks = Closes l (answeredIn v ks) (askedIn v ks) (hearingOf v ks)
 
 -- Theorem Closing report: an accepted report among other calls, of which none ended it.
 abbrev pub ClosingReport : Type 0
 ClosingReport = (v : World) (w o : List ℕ) (f : Filter) (ks : List Call) → Bytes (v .table) → Accepted v w o f
-    → undisturbedB (reportBegun v w o) ks ≡ true → Closes (matching f (v .table)) (reportBegun v w o) ks
+    → undisturbedB (reportBegun v w o) ks ≡ true → ClosesIn (matching f (v .table)) (reportBegun v w o) ks
 
 -- Theorem Reached closing: from start, over any calls, an accepted report among calls that end none.
 abbrev pub ReachedClosing : Type 0
 ReachedClosing = (t : List ℕ) (before ks : List Call) (w o : List ℕ) (f : Filter) → sizeB (length t) ≡ true
     → Accepted (runOf (newWorld t) before) w o f → allQuietB (reportBegun (runOf (newWorld t) before) w o) ks ≡ true
-    → Closes (matching f (runOf (newWorld t) before .table)) (reportBegun (runOf (newWorld t) before) w o) ks
+    → ClosesIn (matching f (runOf (newWorld t) before .table)) (reportBegun (runOf (newWorld t) before) w o) ks
