@@ -1,14 +1,14 @@
 -- Every element of the image of a clock that was reached is a byte.
 -- Assumes nothing.
-use mathlib.Core.Path.{_≡_, refl, _∙_, ap}
+use mathlib.Core.Path.{_≡_, refl}
 use mathlib.Core.Bool.{Bool, true, false}
-use mathlib.Core.List.{List, [], _∷_, _++_}
-use Prim.Native.Nat.{ℕ, zero, suc, _<_, _≤_}
+use mathlib.Core.List.{List, [], _∷_}
+use Prim.Native.Nat.{ℕ, zero, suc, _<_}
 use native.Mathlib.Omega.{arith}
 use borrow.Author.Tests.{leb-true, eqb-true, ltb-true}
-use lib.Dec.{leb, ltb, eqb}
+use lib.Dec.{ltb, eqb}
 use lib.ListN.{drop, length}
-use Rattle.octets.specs.Choice.{both, either, pick}
+use Rattle.octets.specs.Choice.{either, pick}
 use Rattle.octets.specs.Numbers.{at, bytes2, bytes4}
 use Rattle.octets.specs.Parts.{Bytes}
 use Rattle.octets.proofs.NumberLaws.{bytes-two, bytes-four}
@@ -29,7 +29,6 @@ use Rattle.clock.specs.declared.events.Event.{Event}
 use Rattle.clock.specs.declared.state.Clock.{Clock}
 use Rattle.clock.specs.declared.state.Left.{Left}
 use Rattle.clock.specs.declared.state.Left.the-variants.{Nothing, From}
-use Rattle.clock.specs.declared.state.Report.{Report}
 use Rattle.clock.specs.declared.state.Running.{Running}
 use Rattle.clock.specs.declared.state.Running.the-variants.{Idle, Reporting}
 use Rattle.clock.proofs.RuleLaws.{clock-reads, running-reads}
@@ -45,7 +44,7 @@ use Rattle.update.specs.Fault.{faultedOf, faultOf}
 use Rattle.update.specs.Theorems.{successB}
 use Rattle.update.specs.TimeUpdate.{updateOf}
 use Rattle.update.proofs.PromiseLaws.{logged, refused-unchanged}
-use Rattle.state_bytes.specs.State.{weightIf, switchesOf, boundsOf, unsentOf, fieldsOf, fieldBytes, imageOf}
+use Rattle.state_bytes.specs.State.{switchesOf, boundsOf, unsentOf, fieldsOf, fieldBytes, imageOf}
 use Rattle.theorems_reports.specs.World.{World, Call, seconds, switches, disconnect, fault, timeUpdate, recordAccess, notify, stepBy, stepOf}
 use Rattle.theorems_reports.specs.Reach.{Good}
 use Rattle.theorems_reports.proofs.ReachLaws.{Turned, same, turns, access-turned, notify-turned}

@@ -17,7 +17,6 @@ use Rattle.record_read.specs.Reading as wellFormed
 use Rattle.record.specs.declared.kinds.Reading.{Reading}
 use Rattle.record.specs.declared.kinds.Reading.the-variants.{Is}
 use Rattle.record.specs.declared.kinds.Record.{Record}
-use Rattle.table.specs.Table.{sizeB}
 use Rattle.table_look.specs.Matching.{matching}
 use Rattle.clock.specs.Answers.{numberOf}
 use Rattle.clock.specs.declared.answers.Answer.{Answer}

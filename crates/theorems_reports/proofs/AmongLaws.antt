@@ -1,15 +1,14 @@
 -- A report among other calls closes: by induction over the calls, with the bytes and the segments still to come.
 -- Assumes nothing.
 use mathlib.Core.Path.{_≡_, refl, sym, _∙_, ap}
-use mathlib.Core.Bool.{Bool, true, false}
+use mathlib.Core.Bool.{true, false}
 use mathlib.Core.List.{List, [], _∷_, _++_, append-assoc}
 use Prim.Native.Nat.{ℕ, suc, _+_, _-_, _<_, _≤_}
 use native.Mathlib.Omega.{arith}
-use borrow.Author.Tests.{eqb-true, le-leb, lt-ltb, le-ltb}
+use borrow.Author.Tests.{eqb-true, le-leb, le-ltb}
 use lib.Dec.{leb, ltb, eqb}
 use lib.ListN.{length, take, drop, length-take, length-drop, take-append-drop}
 use lib.Seq.{take-all, drop-drop}
-use Rattle.octets.specs.Choice.{pick}
 use Rattle.octets.specs.Parts.{Bytes}
 use Rattle.octets.proofs.Tests.{clash, both-reads, both-yes, false-by}
 use Rattle.filter.specs.declared.filter.Filter.{Filter}
@@ -19,10 +18,10 @@ use Rattle.table.specs.Table.{soundB}
 use Rattle.clock.specs.declared.state.Clock.{Clock}
 use Rattle.racp_notify.specs.Notify.{bit, roomB, segmentOf}
 use Rattle.theorems_reports.specs.World.{World, world, Call, seconds, switches, disconnect, fault, timeUpdate, recordAccess, notify, stepOf}
-use Rattle.theorems_reports.specs.Hearing.{Heard, nothing, segment, closing, heardOf, Hearing, hearing, onward, hearingBy, hearingOf, undisturbedB}
-use Rattle.theorems_reports.specs.Reports.{askingB, segments, Exact}
-use Rattle.theorems_reports.specs.Closing.{sizeIn, heardB, unlessClosing, answeredIn, askedIn, allOfB, allBytes, bodies, bodiedB, Begins, ClosesIn}
-use Rattle.theorems_reports.proofs.RunLaws.{Runs, Told, closes, last, more, told, ending}
+use Rattle.theorems_reports.specs.Hearing.{nothing, segment, closing, heardOf, Hearing, hearing, onward, hearingBy, hearingOf, undisturbedB}
+use Rattle.theorems_reports.specs.Reports.{askingB, Exact}
+use Rattle.theorems_reports.specs.Closing.{sizeIn, heardB, answeredIn, askedIn, allOfB, allBytes, bodies, bodiedB, Begins, ClosesIn}
+use Rattle.theorems_reports.proofs.RunLaws.{Runs, Told, closes, last, more, told}
 use Rattle.theorems_reports.proofs.StepLaws.{Step, still, asked, ended, step}
 use Rattle.theorems_reports.proofs.HeardLaws.{room-reads, hears, closing-heard, undisturbed-still, undisturbed-ended, undisturbed-segment}
 use Rattle.theorems_reports.proofs.CloseLaws.{todo, todo-all, todo-last, todo-more, fewer, fewer-last, one-more}
