@@ -26,6 +26,7 @@ computed =
       combines = λ n. two-bytes 7 (omega arith);
       case6 = refl;
       faulted = refl;
+      again = refl;
       reported = refl;
       needs-bytes = refl;
     }

@@ -61,6 +61,7 @@ use Rattle.theorems_reports.specs.Reach.{Good}
 use Rattle.theorems_reports.proofs.ReachLaws.{call-good}
 use Rattle.theorems_reports.proofs.AccessLaws.{left-refused, left-done}
 use Rattle.theorems_bytes.specs.Fitting.{WritesBytes, AllWriteBytes, FitsKept}
+use Rattle.theorems_bytes.proofs.ByteLaws.{image-bytes, new-bytes, call-bytes}
 
 -- a record's number in a table of bytes
 record-small : (b : List ℕ) → Bytes b → sequenceOf (recordOf b) < 65536
@@ -282,4 +283,7 @@ fits-kept =
       of-good = fits-good;
       call = call-fits;
       reached = λ t ks h size. run-fits ks (newWorld t) h (new-good t size) (new-fits t);
+      new-bytes = new-bytes;
+      call-bytes = call-bytes;
+      image-bytes = image-bytes;
     }

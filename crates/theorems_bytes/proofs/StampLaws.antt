@@ -3,20 +3,21 @@
 use mathlib.Core.Path.{_≡_, refl, sym, ap, subst, _∙_}
 use mathlib.Core.Bool.{Bool, true, false}
 use mathlib.Core.List.{List, [], _∷_, _++_, map, append-assoc}
-use Prim.Native.Nat.{ℕ, _+_, _<_, _≤_}
+use Prim.Native.Nat.{ℕ, _+_, _-_, _%_, _<_, _≤_}
 use native.Mathlib.Omega.{arith}
-use borrow.Author.Tests.{le-leb}
+use borrow.Author.Tests.{le-leb, leb-false}
 use lib.Dec.{leb, eqb}
 use lib.IntN.{ℤ, pos, _-ℤ_, pos-ne-negsuc}
-use lib.ListN.{length}
+use lib.ListN.{length, length-map, length-drop}
 use Rattle.octets.specs.Choice.{both, pick}
 use Rattle.octets.specs.Numbers.{at, le16, le32}
 use Rattle.octets.specs.Parts.{over, Bytes}
 use Rattle.octets.proofs.NumberLaws.{two, four}
-use Rattle.record.specs.Fields.{typeOf}
+use Rattle.record_write.specs.Layout.{updateBytes, faultBytes, bytesOf}
 use Rattle.record.specs.declared.kinds.Record.{Record}
 use Rattle.record.specs.declared.kinds.Record.the-variants.{TimeUpdate, TimeFault}
-use Rattle.table.specs.Table.{count, next}
+use Rattle.table.specs.Table.{slotsIn, sizeB, count, next, held}
+use Rattle.table_write.specs.Append.{newest}
 use Rattle.table_write.proofs.HistoryLaws.{length-held}
 use Rattle.clock.specs.Answers.{numberOf}
 use Rattle.clock.specs.Events.{secondsOf}
@@ -39,7 +40,8 @@ use Rattle.carry.specs.Stamp as carry
 use Rattle.carry.specs.declared.stamp.Carried.{Carried}
 use Rattle.carry.specs.declared.stamp.Carried.the-variants.{To, NotHeld, FaultAmong, PastRange}
 use Rattle.carry.specs.declared.stamp.Carried.the-variants as carrieds
-use Rattle.state_bytes.specs.State.{imageOf}
+use Rattle.state_bytes.specs.State.{stateBytes, imageOf, clockOf}
+use Rattle.state_bytes.proofs.RoundTrip.{state-images}
 use Rattle.state_bytes.specs.Results.{refusal}
 use Rattle.server_bytes.specs.Results.{resultOf}
 use Rattle.server_bytes.specs.Calls.{Called}
@@ -50,13 +52,15 @@ use Rattle.theorems_entry.proofs.PromiseLaws.{composes}
 use Rattle.theorems_reports.specs.World.{World, newWorld, Call, stepOf, runOf}
 use Rattle.theorems_stamps.specs.Stamps.{ranOf, loggedOf}
 use Rattle.theorems_stamps.specs.Stamps as stamps
-use Rattle.theorems_stamps.proofs.StampLaws.{carries}
-use Rattle.theorems_bytes.specs.World.{ByteWorld, ByteCall, seconds, switches, disconnect, fault, dtcpWrite, racpWrite, notify, deviceTime, calledAt, stepAt, runAt, callOf, callsOf, saidOf, imageIn, calledOf}
-use Rattle.theorems_bytes.specs.Stamps.{doneAt, zeroAt, ranIn, ranAt, successAt, typesIn, typesAt, faultlessB, baseRead, numberRead, carriedAt, allHeldAt, CarriesAt, CarriedStampAt}
-use Rattle.theorems_bytes.proofs.ImageLaws.{one-call, Fit, call-fit, step-is, run-is, run-fit, reached-fit, reached}
+use Rattle.theorems_stamps.proofs.SameLaws.{same-records}
+use Rattle.theorems_stamps.proofs.StampLaws.{by-counts, carries, holds-logged}
+use Rattle.theorems_bytes.specs.World.{ByteWorld, ByteCall, seconds, switches, disconnect, fault, dtcpWrite, racpWrite, notify, deviceTime, calledAt, stepAt, runAt, EntryCall, historyAt, startedAt, callOf, callsOf, saidOf, imageIn, calledOf, historyOf, sinceStart}
+use Rattle.theorems_bytes.specs.Stamps.{doneAt, zeroAt, ranIn, ranAt, successAt, loggedIn, loggedAt, faultlessB, heldIn, sameRowsB, baseRead, numberRead, carriedAt, allHeldAt, HoldsLoggedAt, CarriesAt, CarriedStampAt}
+use Rattle.theorems_bytes.proofs.HeldLaws.{held-written, newest-written, same-rows, rows-itself, rows-differ}
+use Rattle.theorems_bytes.proofs.ImageLaws.{one-call, Fit, call-fit, new-fit, step-is, run-is, run-fit, reached-fit, reached, images}
 
 -- a result tells whether it is done
-done-result : (a : Answer) (n : ℕ) → doneAt (resultOf a n) ≡ doneB a
+pub done-result : (a : Answer) (n : ℕ) → doneAt (resultOf a n) ≡ doneB a
 unfolding resultOf doneB numberOf
 done-result Done n = refl
 done-result TableNotSound n = refl
@@ -93,9 +97,9 @@ logged-append v (k ∷ a) b =
     ap (λ (l : List Record). stamps.loggedIn v k ++ l) (logged-append (stepOf v k) a b)
     ∙ sym (append-assoc (stamps.loggedIn v k) (loggedOf (stepOf v k) a) (loggedOf (runOf (stepOf v k) a) b))
 
-map-append : (a b : List Record) → map typeOf (a ++ b) ≡ map typeOf a ++ map typeOf b
+map-append : (a b : List Record) → map bytesOf (a ++ b) ≡ map bytesOf a ++ map bytesOf b
 map-append [] b = refl
-map-append (r ∷ a) b = ap (λ (l : List ℕ). typeOf r ∷ l) (map-append a b)
+map-append (r ∷ a) b = ap (λ (l : List (List ℕ)). bytesOf r ∷ l) (map-append a b)
 
 -- one call
 seconds-ran : (v : World) (n : ℕ) → calledAt (imageIn v) (seconds n) ≡ calledOf v (seconds n)
@@ -118,40 +122,50 @@ ran-one v (racpWrite w o h) f = refl
 ran-one v (notify p o) f = refl
 ran-one v (deviceTime o) f = refl
 
-one-type : (b : Bool) (n : ℕ) (r : Record) → typeOf r ≡ n → pick b (n ∷ []) [] ≡ map typeOf (pick b (r ∷ []) [] ++ [])
-one-type true n r h = ap (λ (k : ℕ). k ∷ []) (sym h)
-one-type false n r h = refl
+one-row : (b : Bool) (r : Record) → pick b (bytesOf r ∷ []) [] ≡ map bytesOf (pick b (r ∷ []) [] ++ [])
+one-row true r = refl
+one-row false r = refl
 
-fault-type : (v : World) (o : List ℕ) → calledAt (imageIn v) (fault o) ≡ calledOf v (fault o)
-    → pick (doneAt (calledAt (imageIn v) (fault o) .result)) (0 ∷ []) []
-    ≡ map typeOf (pick (doneB (faultOf (v .clock) (v .table) o .reply .answer)) (faultRecord (v .clock) (next (v .table)) ∷ []) [] ++ [])
-unfolding calledOf saidOf faultRecord typeOf
-fault-type v o e =
+-- the clock that stands in the image
+clock-back : (v : World) → Fit v → clockOf (imageOf (v .clock)) ≡ v .clock
+clock-back v f = state-images .read-back (v .clock) (f .fits) (f .good .clock)
+
+fault-logged : (v : World) (o : List ℕ) → Fit v
+    → pick (doneAt (calledAt (imageIn v) (fault o) .result)) (bytesOf (faultRecord (clockOf (imageOf (v .clock))) (next (v .table))) ∷ []) []
+    ≡ map bytesOf (pick (doneB (faultOf (v .clock) (v .table) o .reply .answer)) (faultRecord (v .clock) (next (v .table)) ∷ []) [] ++ [])
+unfolding calledOf saidOf
+fault-logged v o f =
     let u = faultOf (v .clock) (v .table) o in
-    ap (λ (x : Called). pick (doneAt (x .result)) (0 ∷ []) []) e
-    ∙ ap (λ (b : Bool). pick b (0 ∷ []) []) (done-result (u .reply .answer) (u .reply .len))
-    ∙ one-type (doneB (u .reply .answer)) 0 (faultRecord (v .clock) (next (v .table))) refl
+    let e = one-call v (fault o) (f .good) (f .fits) in
+    ap (λ (c : Clock). pick (doneAt (calledAt (imageIn v) (fault o) .result)) (bytesOf (faultRecord c (next (v .table))) ∷ []) []) (clock-back v f)
+    ∙ ap (λ (x : Called). pick (doneAt (x .result)) (bytesOf (faultRecord (v .clock) (next (v .table))) ∷ []) []) e
+    ∙ ap (λ (b : Bool). pick b (bytesOf (faultRecord (v .clock) (next (v .table))) ∷ []) []) (done-result (u .reply .answer) (u .reply .len))
+    ∙ one-row (doneB (u .reply .answer)) (faultRecord (v .clock) (next (v .table)))
 
-update-type : (v : World) (w o : List ℕ) (h : Bytes w) → calledAt (imageIn v) (dtcpWrite w o h) ≡ calledOf v (dtcpWrite w o h)
-    → pick (successAt (calledAt (imageIn v) (dtcpWrite w o h))) (1 ∷ []) []
-    ≡ map typeOf (pick (successB (updateOf (v .clock) (v .table) w o)) (updateRecord (v .clock) (proposalAt w) (next (v .table)) ∷ []) [] ++ [])
-unfolding calledOf saidOf updateRecord typeOf
-update-type v w o h e =
+update-logged : (v : World) (w o : List ℕ) (h : Bytes w) → Fit v
+    → pick (successAt (calledAt (imageIn v) (dtcpWrite w o h))) (bytesOf (updateRecord (clockOf (imageOf (v .clock))) (proposalAt w) (next (v .table))) ∷ []) []
+    ≡ map bytesOf (pick (successB (updateOf (v .clock) (v .table) w o)) (updateRecord (v .clock) (proposalAt w) (next (v .table)) ∷ []) [] ++ [])
+unfolding calledOf saidOf
+update-logged v w o h f =
     let u = updateOf (v .clock) (v .table) w o in
-    ap (λ (x : Called). pick (successAt x) (1 ∷ []) []) e
-    ∙ ap (λ (b : Bool). pick (both b (eqb (at (u .output) 2) success)) (1 ∷ []) []) (done-result (u .reply .answer) (u .reply .len))
-    ∙ one-type (successB u) 1 (updateRecord (v .clock) (proposalAt w) (next (v .table))) refl
+    let e = one-call v (dtcpWrite w o h) (f .good) (f .fits) in
+    ap (λ (c : Clock). pick (successAt (calledAt (imageIn v) (dtcpWrite w o h))) (bytesOf (updateRecord c (proposalAt w) (next (v .table))) ∷ []) [])
+    (clock-back v f)
+    ∙ ap (λ (x : Called). pick (successAt x) (bytesOf (updateRecord (v .clock) (proposalAt w) (next (v .table))) ∷ []) []) e
+    ∙ ap (λ (b : Bool). pick (both b (eqb (at (u .output) 2) success)) (bytesOf (updateRecord (v .clock) (proposalAt w) (next (v .table))) ∷ []) [])
+    (done-result (u .reply .answer) (u .reply .len))
+    ∙ one-row (successB u) (updateRecord (v .clock) (proposalAt w) (next (v .table)))
 
-types-one : (v : World) (k : ByteCall) → Fit v → typesIn (imageIn v) k ≡ map typeOf (loggedOf v (callOf k))
-unfolding typesIn loggedOf stamps.loggedIn callOf
-types-one v (seconds n) f = refl
-types-one v (switches x y z) f = refl
-types-one v disconnect f = refl
-types-one v (fault o) f = fault-type v o (one-call v (fault o) (f .good) (f .fits))
-types-one v (dtcpWrite w o h) f = update-type v w o h (one-call v (dtcpWrite w o h) (f .good) (f .fits))
-types-one v (racpWrite w o h) f = refl
-types-one v (notify p o) f = refl
-types-one v (deviceTime o) f = refl
+logged-one : (v : World) (k : ByteCall) → Fit v → loggedIn (imageIn v) k ≡ map bytesOf (loggedOf v (callOf k))
+unfolding loggedIn loggedOf stamps.loggedIn callOf
+logged-one v (seconds n) f = refl
+logged-one v (switches x y z) f = refl
+logged-one v disconnect f = refl
+logged-one v (fault o) f = fault-logged v o f
+logged-one v (dtcpWrite w o h) f = update-logged v w o h f
+logged-one v (racpWrite w o h) f = refl
+logged-one v (notify p o) f = refl
+logged-one v (deviceTime o) f = refl
 
 -- all calls
 ran-is : (ks : List ByteCall) (v : World) → Fit v → ranAt (imageIn v) ks ≡ ranOf v (callsOf ks)
@@ -163,22 +177,19 @@ ran-is (k ∷ ks) v f =
     ∙ ap (λ (n : ℕ). ranOf v (callOf k) + n) (ran-is ks (runOf v (callOf k)) (call-fit v k f))
     ∙ sym (ran-append v (callOf k) (callsOf ks))
 
-types-are : (ks : List ByteCall) (v : World) → Fit v → typesAt (imageIn v) ks ≡ map typeOf (loggedOf v (callsOf ks))
-unfolding typesAt loggedOf callsOf
-types-are [] v f = refl
-types-are (k ∷ ks) v f =
-    ap (λ (l : List ℕ). l ++ typesAt (stepAt (imageIn v) k) ks) (types-one v k f)
-    ∙ ap (λ (b : ByteWorld). map typeOf (loggedOf v (callOf k)) ++ typesAt b ks) (step-is v k f)
-    ∙ ap (λ (l : List ℕ). map typeOf (loggedOf v (callOf k)) ++ l) (types-are ks (runOf v (callOf k)) (call-fit v k f))
+logged-are : (ks : List ByteCall) (v : World) → Fit v → loggedAt (imageIn v) ks ≡ map bytesOf (loggedOf v (callsOf ks))
+unfolding loggedAt loggedOf callsOf
+logged-are [] v f = refl
+logged-are (k ∷ ks) v f =
+    ap (λ (l : List (List ℕ)). l ++ loggedAt (stepAt (imageIn v) k) ks) (logged-one v k f)
+    ∙ ap (λ (b : ByteWorld). map bytesOf (loggedOf v (callOf k)) ++ loggedAt b ks) (step-is v k f)
+    ∙ ap (λ (l : List (List ℕ)). map bytesOf (loggedOf v (callOf k)) ++ l) (logged-are ks (runOf v (callOf k)) (call-fit v k f))
     ∙ sym (map-append (loggedOf v (callOf k)) (loggedOf (runOf v (callOf k)) (callsOf ks)))
-    ∙ ap (map typeOf) (sym (logged-append v (callOf k) (callsOf ks)))
+    ∙ ap (map bytesOf) (sym (logged-append v (callOf k) (callsOf ks)))
 
-length-types : (l : List Record) → length (map typeOf l) ≡ length l
-length-types [] = refl
-length-types (r ∷ l) = omega (arith, length-types l)
-
-faultless-is : (l : List Record) → faultlessB (map typeOf l) ≡ noFaultB l
-unfolding faultlessB noFaultB typeOf
+-- Event_Log_Type stands in byte 2
+faultless-is : (l : List Record) → faultlessB (map bytesOf l) ≡ noFaultB l
+unfolding faultlessB noFaultB bytesOf updateBytes faultBytes
 faultless-is [] = refl
 faultless-is (TimeUpdate u ∷ l) = faultless-is l
 faultless-is (TimeFault f ∷ l) = refl
@@ -233,6 +244,51 @@ carried-to y NotHeld h = absurd (pos-ne-negsuc 0 _ (sym h))
 carried-to y FaultAmong h = absurd (pos-ne-negsuc 0 _ (sym h))
 carried-to y PastRange h = absurd (pos-ne-negsuc 0 _ (sym h))
 
+-- the test by the records' bytes is that by value, and one of the counts
+module _ (v : World) (after : List ByteCall) (f : Fit v) where
+  length-logged : length (loggedAt (imageIn v) after) ≡ length (loggedOf v (callsOf after))
+  length-logged = ap length (logged-are after v f) ∙ length-map (loggedOf v (callsOf after)) bytesOf
+
+  held-after : heldIn (runAt (imageIn v) after .table) ≡ map bytesOf (held (runOf v (callsOf after) .table))
+  held-after =
+      let g = run-fit after v f .good in
+      ap (λ (b : ByteWorld). heldIn (b .table)) (run-is after v f) ∙ held-written (runOf v (callsOf after) .table) (g .bytes) (g .sound)
+
+  rows-are : allHeldAt (imageIn v) after
+      ≡ (let l = loggedOf v (callsOf after) in sameRowsB (map bytesOf (newest (length l) (held (runOf v (callsOf after) .table)))) (map bytesOf l))
+  unfolding allHeldAt
+  rows-are =
+      let l = loggedOf v (callsOf after) in
+      let h = held (runOf v (callsOf after) .table) in
+      ap (λ (r : List (List ℕ)). sameRowsB (newest (length r) (heldIn (runAt (imageIn v) after .table))) r) (logged-are after v f)
+      ∙ ap (λ (x : List (List ℕ)). sameRowsB (newest (length (map bytesOf l)) x) (map bytesOf l)) held-after
+      ∙ ap (λ (n : ℕ). sameRowsB (newest n (map bytesOf h)) (map bytesOf l)) (length-map l bytesOf)
+      ∙ ap (λ (x : List (List ℕ)). sameRowsB x (map bytesOf l)) (sym (newest-written (length l) h))
+
+  pub held-is : allHeldAt (imageIn v) after ≡ stamps.allHeldB v (callsOf after)
+  unfolding stamps.allHeldB
+  held-is = rows-are ∙ go (stamps.allHeldB v (callsOf after)) refl
+    where
+      go : (b : Bool) → stamps.allHeldB v (callsOf after) ≡ b
+          → (let l = loggedOf v (callsOf after) in sameRowsB (map bytesOf (newest (length l) (held (runOf v (callsOf after) .table)))) (map bytesOf l)) ≡ b
+      go true e =
+          let l = loggedOf v (callsOf after) in
+          ap (λ (x : List Record). sameRowsB (map bytesOf x) (map bytesOf l)) (same-records _ l e) ∙ rows-itself (map bytesOf l)
+      go false e =
+          let l = loggedOf v (callsOf after) in
+          let h = held (runOf v (callsOf after) .table) in
+          let x = leb-false (length l) (length h) (sym (by-counts v (callsOf after) (f .good)) ∙ e) in
+          let y = length-drop (length h - length l) h in
+          rows-differ (map bytesOf (newest (length l) h)) (map bytesOf l)
+          (λ z. omega (arith, length-map l bytesOf, length-map (newest (length l) h) bytesOf))
+
+  pub counts-are : allHeldAt (imageIn v) after ≡ leb (length (loggedAt (imageIn v) after)) (count (runAt (imageIn v) after .table))
+  counts-are =
+      held-is ∙ by-counts v (callsOf after) (f .good)
+      ∙ ap (λ (n : ℕ). leb n (length (held (runOf v (callsOf after) .table)))) (sym length-logged)
+      ∙ ap (leb (length (loggedAt (imageIn v) after))) (length-held (runOf v (callsOf after) .table))
+      ∙ ap (λ (b : ByteWorld). leb (length (loggedAt (imageIn v) after)) (count (b .table))) (sym (run-is after v f))
+
 module _ (v : World) (after : List ByteCall) (o p : List ℕ) (y : ℤ) (f : Fit v) (ro : 20 ≤ length o) (rp : 20 ≤ length p) where
   abbrev byValue : Carried
   byValue = stamps.carriedAfter carryOf v (callsOf after)
@@ -244,25 +300,15 @@ module _ (v : World) (after : List ByteCall) (o p : List ℕ) (y : ℤ) (f : Fit
       ∙ ap (λ (n : ℕ). handed y (carryOf (v .clock .time .base) n (runAt (imageIn v) after .table))) (number-is v o f ro)
       ∙ ap (λ (b : ByteWorld). handed y (carryOf (v .clock .time .base) (next (v .table)) (b .table))) (run-is after v f)
 
-  types : typesAt (imageIn v) after ≡ map typeOf (loggedOf v (callsOf after))
-  types = types-are after v f
+  no-fault-is : faultlessB (loggedAt (imageIn v) after) ≡ noFaultB (loggedOf v (callsOf after))
+  no-fault-is = ap faultlessB (logged-are after v f) ∙ faultless-is (loggedOf v (callsOf after))
 
-  held-is : allHeldAt (imageIn v) after ≡ stamps.allHeldB v (callsOf after)
-  held-is =
-      ap (λ (l : List ℕ). leb (length l) (count (runAt (imageIn v) after .table))) types
-      ∙ ap (λ (n : ℕ). leb n (count (runAt (imageIn v) after .table))) (length-types (loggedOf v (callsOf after)))
-      ∙ ap (λ (b : ByteWorld). leb (length (loggedOf v (callsOf after))) (count (b .table))) (run-is after v f)
-      ∙ ap (leb (length (loggedOf v (callsOf after)))) (sym (length-held (runOf v (callsOf after) .table)))
-
-  no-fault-is : faultlessB (typesAt (imageIn v) after) ≡ noFaultB (loggedOf v (callsOf after))
-  no-fault-is = ap faultlessB types ∙ faultless-is (loggedOf v (callsOf after))
-
-  carries-image : length (typesAt (imageIn v) after) < 65536 → CarriesAt (imageIn v) after o p y
+  carries-image : length (loggedAt (imageIn v) after) < 65536 → CarriesAt (imageIn v) after o p y
   unfolding carry.carryingNumber
   carries-image few =
       let w = runOf v (callsOf after) in
       let fw = run-fit after v f in
-      let e = ap length types ∙ length-types (loggedOf v (callsOf after)) in
+      let e = length-logged v after f in
       let k = carries v (callsOf after) (f .good) (omega arith) in
       record {
         noted = ap (λ (x : Shown). x .result) (time-is v o f ro);
@@ -273,7 +319,7 @@ module _ (v : World) (after : List ByteCall) (o p : List ℕ) (y : ℤ) (f : Fit
             ap (λ (x : CarriedTo). zeroAt (x .result)) carried-is
             ∙ zero-handed byValue
             ∙ k .exactly
-            ∙ ap (λ (b : Bool). both b (noFaultB (loggedOf v (callsOf after)))) (sym held-is)
+            ∙ ap (λ (b : Bool). both b (noFaultB (loggedOf v (callsOf after)))) (sym (held-is v after f))
             ∙ ap (both (allHeldAt (imageIn v) after)) (sym no-fault-is);
         difference = λ h.
             let r = carried-to y byValue (ap (λ (x : CarriedTo). x .result) (sym carried-is) ∙ h) in
@@ -282,13 +328,47 @@ module _ (v : World) (after : List ByteCall) (o p : List ℕ) (y : ℤ) (f : Fit
             ∙ ap (λ (x : CarriedTo). pos (w .clock .time .base) -ℤ x .carried) carried-is
             ∙ k .difference (stampAfter y byValue) r
             ∙ ap pos (sym (ran-is after v f));
-        not-held = λ h. carried-is ∙ ap (handed y) (k .not-held (sym held-is ∙ h));
-        fault = λ h n. carried-is ∙ ap (handed y) (k .fault (sym held-is ∙ h) (sym no-fault-is ∙ n));
+        not-held = λ h. carried-is ∙ ap (handed y) (k .not-held (sym (held-is v after f) ∙ h));
+        fault = λ h n. carried-is ∙ ap (handed y) (k .fault (sym (held-is v after f) ∙ h) (sym no-fault-is ∙ n));
       }
 
 pub carried-stamp-at : CarriedStampAt
 carried-stamp-at s t before after o p y hs ht ro rp few =
-    let v = runOf (newWorld t) (callsOf before) in
+    let v = historyOf (newWorld t) before in
     let e = reached s t hs ht before in
     subst (λ b. CarriesAt b after o p y) (sym e)
-    (carries-image v after o p y (reached-fit s t hs ht before) ro rp (subst (λ b. length (typesAt b after) < 65536) e few))
+    (carries-image v after o p y (reached-fit s t hs ht before) ro rp (subst (λ b. length (loggedAt b after) < 65536) e few))
+
+-- What the table holds of what was logged since the last start.
+module _ (s t : List ℕ) (ks : List EntryCall) (hs : length s ≡ stateBytes) (ht : sizeB (length t) ≡ true) where
+  abbrev since : List ByteCall
+  since = sinceStart [] ks
+
+  logged-since : loggedAt (startedAt s t) since ≡ map bytesOf (loggedOf (newWorld t) (callsOf since))
+  logged-since = ap (λ (b : ByteWorld). loggedAt b since) (images .starts s t hs ht .1) ∙ logged-are since (newWorld t) (new-fit t ht)
+
+  holds-at : heldIn (historyAt (startedAt s t) ks .table) ≡ newest (slotsIn (length t)) (loggedAt (startedAt s t) since)
+  holds-at =
+      let g = run-fit since (newWorld t) (new-fit t ht) .good in
+      ap (λ (b : ByteWorld). heldIn (b .table)) (images .since s t ks hs ht)
+      ∙ held-written (runOf (newWorld t) (callsOf since) .table) (g .bytes) (g .sound)
+      ∙ ap (map bytesOf) (holds-logged .holds t (callsOf since) ht)
+      ∙ newest-written (slotsIn (length t)) (loggedOf (newWorld t) (callsOf since))
+      ∙ ap (newest (slotsIn (length t))) (sym logged-since)
+
+  counts-at : next (historyAt (startedAt s t) ks .table) ≡ length (loggedAt (startedAt s t) since) % 65536
+  counts-at =
+      ap (λ (b : ByteWorld). next (b .table)) (images .since s t ks hs ht)
+      ∙ holds-logged .counts t (callsOf since) ht
+      ∙ ap (λ (n : ℕ). n % 65536) (sym (ap length logged-since ∙ length-map (loggedOf (newWorld t) (callsOf since)) bytesOf))
+
+pub holds-logged-at : HoldsLoggedAt
+holds-logged-at =
+    record {
+      holds = λ s t ks hs ht. holds-at s t ks hs ht;
+      counts = λ s t ks hs ht. counts-at s t ks hs ht;
+      same = same-rows;
+      same-back = rows-itself;
+      by-counts = λ s t before after hs ht.
+          rw (reached s t hs ht before) (counts-are (historyOf (newWorld t) before) after (reached-fit s t hs ht before));
+    }

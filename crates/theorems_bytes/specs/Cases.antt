@@ -1,10 +1,11 @@
 -- Cases over bytes, run by the checker on the definitions that the entry points' promises cite.
 use mathlib.Core.Path.{_≡_}
 use mathlib.Core.Bool.{Bool, true, false}
-use mathlib.Core.List.{List, [], _∷_}
+use mathlib.Core.List.{List, [], _∷_, _++_}
 use Prim.Native.Nat.{ℕ}
 use lib.IntN.{ℤ, pos, negsuc}
 use lib.ListN.{replicate}
+use Rattle.octets.specs.Numbers.{bytes2, bytes4}
 use Rattle.octets.specs.Parts.{Bytes, sameB}
 use Rattle.filter.specs.declared.filter.Filter.the-variants.{AtMost}
 use Rattle.clock.specs.Answers.{numberOf}
@@ -28,16 +29,16 @@ use Rattle.theorems_stamps.specs.Cases.{buffer, output, force, Writable}
 use Rattle.theorems_reports.specs.World.{newWorld, Call, runOf}
 use Rattle.theorems_reports.specs.World as calls
 use Rattle.theorems_reports.specs.Open.{callsOpen, joiningOpen}
-use Rattle.theorems_bytes.specs.World.{ByteCall, seconds, switches, disconnect, fault, dtcpWrite, racpWrite, notify, deviceTime, calledAt, stepAt, runAt, startedAt}
+use Rattle.theorems_bytes.specs.World.{ByteCall, seconds, switches, disconnect, fault, dtcpWrite, racpWrite, notify, deviceTime, calledAt, stepAt, runAt, EntryCall, start, call, enteredAt, enterAt, historyAt, startedAt}
 use Rattle.theorems_bytes.specs.Reports.{heardAt, hearingAt, GotAt, gotAt, joinAllAt}
-use Rattle.theorems_bytes.specs.Stamps.{ranIn, ranAt, typesIn, typesAt, faultlessB, baseRead, numberRead, carriedAt, allHeldAt}
+use Rattle.theorems_bytes.specs.Stamps.{ranIn, ranAt, loggedIn, loggedAt, faultlessB, heldIn, sameRowsB, baseRead, numberRead, carriedAt, allHeldAt}
 
--- the stamp and its number as read, the types of what was logged after it, the theorem's two tests, what `dts_carry` gives where -1 stood;
+-- the stamp and its number as read, the records that were logged after it, the theorem's two tests, what `dts_carry` gives where -1 stood;
 -- the clock then as read, and the seconds that ran
 pub record Result : Type 0 where
   pub stamp : ℕ
   pub number : ℕ
-  pub types : List ℕ
+  pub logged : List (List ℕ)
   pub allHeld : Bool
   pub faultless : Bool
   pub result : ℤ
@@ -45,16 +46,16 @@ pub record Result : Type 0 where
   pub clock : ℕ
   pub ran : ℕ
 
-unfoldable pub seenOf : List ℕ → List ByteCall → List ByteCall → Result
-unfolding callsOpen laterOf movedBy carriedOver carriedFrom carryOf carry.carryingNumber deviceTimeBytes deviceTimeOf switchesIn boundsOf unsentOf fieldsOf fieldBytes imageOf filterIn leftIn runningIn clockIn imageB clockOf sameB resultOf stateAfter results.settledOf startAt secondsAt switchesAt disconnectAt faultCall dtcpAt racpAt notifyAt deviceTimeAt carryAt calledAt stepAt runAt ranIn ranAt typesIn typesAt faultlessB
+unfoldable pub seenOf : List ℕ → List EntryCall → List ByteCall → Result
+unfolding callsOpen laterOf movedBy carriedOver carriedFrom carryOf carry.carryingNumber deviceTimeBytes deviceTimeOf switchesIn boundsOf unsentOf fieldsOf fieldBytes imageOf filterIn leftIn runningIn clockIn imageB clockOf sameB resultOf stateAfter results.settledOf startAt secondsAt switchesAt disconnectAt faultCall dtcpAt racpAt notifyAt deviceTimeAt carryAt calledAt stepAt runAt enteredAt enterAt historyAt ranIn ranAt loggedIn loggedAt faultlessB heldIn sameRowsB allHeldAt
 seenOf t before after =
-    let b = runAt (startedAt (buffer 32) t) before in
+    let b = historyAt (startedAt (buffer 32) t) before in
     record {
       stamp = baseRead b output;
       number = numberRead b output;
-      types = typesAt b after;
+      logged = loggedAt b after;
       allHeld = allHeldAt b after;
-      faultless = faultlessB (typesAt b after);
+      faultless = faultlessB (loggedAt b after);
       result = carriedAt b after output (negsuc 0) .result;
       carried = carriedAt b after output (negsuc 0) .carried;
       clock = baseRead (runAt b after) output;
@@ -67,15 +68,27 @@ set h b = dtcpWrite (force b) output (h b)
 abbrev pub on : ByteCall
 on = switches 1 2 255
 
+-- A Time_Update and a Time_Fault with the number n, as bytes: number, type, flags, status after and before, fault count; of the first zone, DST,
+-- source and accuracy; the time after and before.
+abbrev updateFrom : ℕ → ℕ → ℕ → ℕ → List ℕ
+updateFrom before n base old =
+    bytes2 n ++ (1 ∷ 0 ∷ 0 ∷ 0 ∷ 0x16 ∷ 0 ∷ before ∷ 0 ∷ 0 ∷ 0 ∷ 4 ∷ 0 ∷ 2 ∷ 1 ∷ (bytes4 base ++ bytes4 old))
+
+abbrev update : ℕ → ℕ → ℕ → List ℕ
+update = updateFrom 0x16
+
+abbrev failed : ℕ → ℕ → ℕ → List ℕ
+failed n base old = bytes2 n ++ (0 ∷ 0 ∷ 0 ∷ 0 ∷ 0x19 ∷ 0 ∷ 0x16 ∷ 0 ∷ 0 ∷ 0 ∷ (bytes4 base ++ bytes4 old))
+
 -- The paper's case 6: "Stamp 800,000,050, q 1; at 800,000,100 record 1 sets 800,000,070: carried 800,000,020. After 40 more seconds the
 -- clock shows 800,000,110, and 90 ran." Device Time is read between, a seconds event is refused with 7.
 abbrev Case6 : Writable → Type 0
-Case6 h = seenOf (buffer 144) (on ∷ set h 800000000 ∷ seconds 50 ∷ [])
+Case6 h = seenOf (buffer 144) (call on ∷ call (set h 800000000) ∷ call (seconds 50) ∷ [])
     (seconds 50 ∷ set h 800000070 ∷ deviceTime output ∷ seconds 4000000000 ∷ disconnect ∷ seconds 40 ∷ [])
     ≡ record {
       stamp = 800000050;
       number = 1;
-      types = 1 ∷ [];
+      logged = update 1 800000070 800000100 ∷ [];
       allHeld = true;
       faultless = true;
       result = pos 0;
@@ -86,18 +99,34 @@ Case6 h = seenOf (buffer 144) (on ∷ set h 800000000 ∷ seconds 50 ∷ [])
 
 -- A fault among the later records while a report runs: 13, and the number that stood there stays.
 abbrev Faulted : Writable → ((n : ℕ) → Bytes (1 ∷ 1 ∷ [])) → Type 0
-Faulted h a = seenOf (buffer 208) (on ∷ set h 800000000 ∷ [])
+Faulted h a = seenOf (buffer 208) (call on ∷ call (set h 800000000) ∷ [])
     (set h 800000100 ∷ seconds 3 ∷ racpWrite (1 ∷ 1 ∷ []) output (a 0) ∷ notify 20 output ∷ fault output ∷ [])
     ≡ record {
       stamp = 800000000;
       number = 1;
-      types = 1 ∷ 0 ∷ [];
+      logged = update 1 800000100 800000000 ∷ failed 2 800000100 800000103 ∷ [];
       allHeld = true;
       faultless = false;
       result = negsuc 12;
       carried = negsuc 0;
       clock = 800000100;
       ran = 3;
+    }
+
+-- `dts_start` in mid-history: clock and log are a new reader's, and the record logged before it is gone. Two records logged in one slot then:
+-- the first is overwritten, and the stamp is refused with 12.
+abbrev Again : Writable → Type 0
+Again h = seenOf (buffer 80) (call on ∷ call (set h 800000000) ∷ start ∷ call on ∷ []) (set h 800000000 ∷ seconds 1 ∷ set h 800000000 ∷ [])
+    ≡ record {
+      stamp = 631152000;
+      number = 0;
+      logged = updateFrom 0x19 0 800000000 631152000 ∷ update 1 800000000 800000001 ∷ [];
+      allHeld = false;
+      faultless = true;
+      result = negsuc 11;
+      carried = negsuc 0;
+      clock = 800000000;
+      ran = 1;
     }
 
 -- A combined report of one record in two bodies, heard among other calls, joined over 48 bytes and read over eleven zeros.
@@ -151,5 +180,6 @@ pub record Computed : Type 0 where
   pub combines : (n : ℕ) → Bytes (7 ∷ 1 ∷ [])
   pub case6 : Case6 writable
   pub faulted : Faulted writable asks
+  pub again : Again writable
   pub reported : Reported writable combines
   pub needs-bytes : NeedsBytes writable

@@ -1,13 +1,13 @@
 -- The theorems about reports (document 01, "RACP and notifications") as the C side sees them: of results, outputs and the tablet's 48 bytes
 -- alone.
 use mathlib.Core.Path.{_≡_}
-use mathlib.Core.Bool.{Bool, true, false}
+use mathlib.Core.Bool.{Bool, true, false, not}
 use mathlib.Core.List.{List, [], _∷_, map}
 use Prim.Native.Nat.{ℕ, _-_, _≤_, _<_}
 use lib.Dec.{ltb, eqb}
 use lib.IntN.{ℤ, pos, negsuc}
 use lib.ListN.{length, take, replicate}
-use Rattle.octets.specs.Choice.{pick}
+use Rattle.octets.specs.Choice.{both, either, pick}
 use Rattle.octets.specs.Numbers.{bytes2}
 use Rattle.octets.specs.Parts.{part, Bytes}
 use Rattle.filter.specs.declared.filter.Filter.{Filter}
@@ -16,12 +16,15 @@ use Rattle.table.specs.Table.{sizeB}
 use Rattle.table_look.specs.Matching.{matching}
 use Rattle.racp_request.specs.Request.{opcodeIn, requestOf}
 use Rattle.racp_request.specs.declared.request.Request.the-variants.{Report}
+use Rattle.racp_notify.specs.Notify.{roomB}
 use Rattle.state_bytes.specs.State.{stateBytes}
 use Rattle.state_bytes.specs.JoiningState.{joiningBytes}
 use Rattle.tablet_bytes.specs.Calls.{joinAt, fieldsIn, ReadNumbers, reading, readAt}
 use Rattle.theorems_reports.specs.Hearing.{Heard, nothing, segment, closing, Hearing, hearing, onward, allCalmB}
 use Rattle.theorems_reports.specs.Reports.{askingsB, longB, segments, Exact}
-use Rattle.theorems_bytes.specs.World.{ByteWorld, ByteCall, seconds, switches, disconnect, fault, dtcpWrite, racpWrite, notify, deviceTime, calledAt, stepAt, runAt, startedAt, callsOf}
+use Rattle.theorems_reports.specs.Closing.{heardB, unlessClosing, Closes}
+use Rattle.theorems_bytes.specs.World.{ByteWorld, ByteCall, seconds, switches, disconnect, fault, dtcpWrite, racpWrite, notify, deviceTime, calledAt, stepAt, EntryCall, historyAt, startedAt, callOf, callsOf}
+use Rattle.theorems_bytes.specs.Stamps.{doneAt}
 
 -- a notification by its result: so many bytes of the output, "+ 256 where these bytes close the report"
 abbrev pub heardFrom : ℤ → List ℕ → Heard
@@ -78,11 +81,60 @@ pub record HearsAt (e t w : List ℕ) (f : Filter) (h : Hearing) : Type 0 where
   pub closes-1 : h .closed ≡ true → opcodeIn w ≡ 1 → h .response ≡ 6 ∷ 0 ∷ 1 ∷ 1 ∷ []
   pub closes-7 : h .closed ≡ true → opcodeIn w ≡ 7 → h .response ≡ 8 ∷ 0 ∷ bytes2 (length (matching f t))
 
+-- A call that ends no report: neither a disconnect, nor a fault, nor an Abort; or one of these that is refused.
+abbrev pub quietAt : ByteWorld → ByteCall → Bool
+quietAt b k = either (allCalmB (callOf k)) (not (doneAt (calledAt b k .result)))
+
+unfoldable pub allQuietAt : ByteWorld → List ByteCall → Bool
+allQuietAt b [] = true
+allQuietAt b (k ∷ ks) = both (quietAt b k) (allQuietAt (stepAt b k) ks)
+
+-- the payload size that a call names
+abbrev pub sizeAt : ByteCall → ℕ
+sizeAt (seconds n) = 0
+sizeAt (switches x y z) = 0
+sizeAt disconnect = 0
+sizeAt (fault o) = 0
+sizeAt (dtcpWrite w o h) = 0
+sizeAt (racpWrite w o h) = 0
+sizeAt (notify p o) = p
+sizeAt (deviceTime o) = 0
+
+-- The payload sizes of the notifications whose result is no refusal, in their order, up to the closing response and with it.
+unfoldable pub answeredAt : ByteWorld → List ByteCall → List ℕ
+answeredAt b [] = []
+answeredAt b (k ∷ ks) =
+    let rest = unlessClosing (heardAt b k) (answeredAt (stepAt b k) ks) in
+    pick (heardB (heardAt b k)) (sizeAt k ∷ rest) rest
+
+-- an asking: a notification with a payload size of 20 to 244 and an output as long
+abbrev pub askingAt : ByteCall → Bool
+askingAt (seconds n) = false
+askingAt (switches x y z) = false
+askingAt disconnect = false
+askingAt (fault o) = false
+askingAt (dtcpWrite w o h) = false
+askingAt (racpWrite w o h) = false
+askingAt (notify p o) = roomB p (length o)
+askingAt (deviceTime o) = false
+
+unfoldable pub askedAt : ByteWorld → List ByteCall → List ℕ
+askedAt b [] = []
+askedAt b (k ∷ ks) =
+    let rest = unlessClosing (heardAt b k) (askedAt (stepAt b k) ks) in
+    pick (askingAt k) (sizeAt k ∷ rest) rest
+
 -- at b a report was accepted
 pub record ReportsAt (b : ByteWorld) (w o : List ℕ) (hw : Bytes w) (f : Filter) : Type 0 where
-  -- heard among any calls without a disconnect, a fault and an Abort
-  pub heard : (e : List ℕ) (ks : List ByteCall) → allCalmB (callsOf ks) ≡ true
+  -- heard among any calls without a disconnect, a fault and an Abort, but those that are refused
+  pub heard : (e : List ℕ) (ks : List ByteCall) → allQuietAt (stepAt b (racpWrite w o hw)) ks ≡ true
       → HearsAt e (b .table) w f (hearingAt (stepAt b (racpWrite w o hw)) ks)
+  -- among the same calls it closes: with P fixed after exactly its number of segments, with any sizes after at most so many
+  pub closing : (ks : List ByteCall) → allQuietAt (stepAt b (racpWrite w o hw)) ks ≡ true
+      → Closes (matching f (b .table)) (answeredAt (stepAt b (racpWrite w o hw)) ks) (askedAt (stepAt b (racpWrite w o hw)) ks)
+      (hearingAt (stepAt b (racpWrite w o hw)) ks)
+  -- a call without a disconnect, a fault and an Abort is quiet whatever comes of it
+  pub calm : (ks : List ByteCall) → allCalmB (callsOf ks) ≡ true → allQuietAt (stepAt b (racpWrite w o hw)) ks ≡ true
   -- the closing response comes, at the latest after as many askings as the smallest payload size needs
   pub closes : (ks : List ByteCall) → askingsB (callsOf ks) ≡ true → segments 19 (matching f (b .table)) < length (callsOf ks)
       → hearingAt (stepAt b (racpWrite w o hw)) ks .closed ≡ true
@@ -92,5 +144,5 @@ pub record ReportsAt (b : ByteWorld) (w o : List ℕ) (hw : Bytes w) (f : Filter
 
 -- Theorem Finished report, over bytes, from start.
 abbrev pub FinishedReportAt : Type 0
-FinishedReportAt = (s t : List ℕ) (before : List ByteCall) (w o : List ℕ) (hw : Bytes w) (f : Filter) → length s ≡ stateBytes
-    → sizeB (length t) ≡ true → AcceptedAt (runAt (startedAt s t) before) w o hw f → ReportsAt (runAt (startedAt s t) before) w o hw f
+FinishedReportAt = (s t : List ℕ) (before : List EntryCall) (w o : List ℕ) (hw : Bytes w) (f : Filter) → length s ≡ stateBytes
+    → sizeB (length t) ≡ true → AcceptedAt (historyAt (startedAt s t) before) w o hw f → ReportsAt (historyAt (startedAt s t) before) w o hw f

@@ -1,7 +1,7 @@
 -- The reader as the C radio firmware calls it: state and table are two buffers, and each entry point leaves in them what the next finds.
 use mathlib.Core.List.{List, [], _∷_, _++_}
 use Prim.Native.Nat.{ℕ}
-use lib.IntN.{ℤ}
+use lib.IntN.{ℤ, pos}
 use Rattle.octets.specs.Parts.{Bytes}
 use Rattle.clock.specs.Events.{secondsOf, switchesOf, disconnectOf}
 use Rattle.update.specs.Fault.{faultOf}
@@ -16,7 +16,7 @@ use Rattle.server_bytes.specs.Start.{startAt}
 use Rattle.server_bytes.specs.Events.{onB, secondsAt, switchesAt, disconnectAt}
 use Rattle.server_bytes.specs.Calls.{Called, called, faultAt, dtcpAt, racpAt, notifyAt}
 use Rattle.server_bytes.specs.ValuesRead.{deviceTimeAt}
-use Rattle.theorems_reports.specs.World.{World, Call, runOf}
+use Rattle.theorems_reports.specs.World.{World, newWorld, Call, runOf}
 use Rattle.theorems_reports.specs.World as calls
 
 pub record ByteWorld : Type 0 where
@@ -26,8 +26,8 @@ pub record ByteWorld : Type 0 where
 abbrev pub byteWorld : List ℕ → List ℕ → ByteWorld
 byteWorld s t = record { state = s; table = t }
 
--- Every entry point that is lent the state, with what else it is lent: o is the output, w a write, p a payload size. A write is bytes.
--- The other entry points are lent neither, or the table to read alone.
+-- Every entry point that is lent the state of a started reader, with what else it is lent: o is the output, w a write, p a payload size. A
+-- write is bytes. But for `dts_start`, below, the other entry points are lent neither, or the table to read alone.
 pub data ByteCall : Type 0 where
   seconds : (n : ℕ) → ByteCall
   switches : (dtcp racp log : ℕ) → ByteCall
@@ -60,6 +60,22 @@ stepAt b k = byteWorld (calledAt b k .state) (calledAt b k .table)
 unfoldable pub runAt : ByteWorld → List ByteCall → ByteWorld
 runAt b [] = b
 runAt b (k ∷ ks) = runAt (stepAt b k) ks
+
+-- One of the calls in a history: `dts_start` over the same two buffers, or a call of the started reader.
+pub data EntryCall : Type 0 where
+  start : EntryCall
+  call : ByteCall → EntryCall
+
+unfoldable pub enteredAt : ByteWorld → EntryCall → Called
+enteredAt b start = let r = startAt (b .state) (b .table) in called (r .result) (r .state) (r .table) []
+enteredAt b (call k) = calledAt b k
+
+unfoldable pub enterAt : ByteWorld → EntryCall → ByteWorld
+enterAt b k = byteWorld (enteredAt b k .state) (enteredAt b k .table)
+
+unfoldable pub historyAt : ByteWorld → List EntryCall → ByteWorld
+historyAt b [] = b
+historyAt b (k ∷ ks) = historyAt (enterAt b k) ks
 
 -- the two buffers after `dts_start`
 abbrev pub startedAt : List ℕ → List ℕ → ByteWorld
@@ -114,11 +130,30 @@ calledOf v k =
     let after = runOf v (callOf k) in
     called (saidOf v k .result) (imageOf (after .clock)) (after .table) (saidOf v k .output)
 
--- all outcomes in a row
-unfoldable pub outcomesAt : ByteWorld → List ByteCall → List Called
-outcomesAt b [] = []
-outcomesAt b (k ∷ ks) = calledAt b k ∷ outcomesAt (stepAt b k) ks
+-- The same in a history: a start makes a new reader of the table's buffer.
+unfoldable pub entryOf : World → EntryCall → World
+entryOf v start = newWorld (v .table)
+entryOf v (call k) = runOf v (callOf k)
 
-unfoldable pub outcomesOf : World → List ByteCall → List Called
+unfoldable pub historyOf : World → List EntryCall → World
+historyOf v [] = v
+historyOf v (k ∷ ks) = historyOf (entryOf v k) ks
+
+unfoldable pub enteredOf : World → EntryCall → Called
+enteredOf v start = let after = newWorld (v .table) in called (pos 0) (imageOf (after .clock)) (after .table) []
+enteredOf v (call k) = calledOf v k
+
+-- all outcomes in a row
+unfoldable pub outcomesAt : ByteWorld → List EntryCall → List Called
+outcomesAt b [] = []
+outcomesAt b (k ∷ ks) = enteredAt b k ∷ outcomesAt (enterAt b k) ks
+
+unfoldable pub outcomesOf : World → List EntryCall → List Called
 outcomesOf v [] = []
-outcomesOf v (k ∷ ks) = calledOf v k ∷ outcomesOf (runOf v (callOf k)) ks
+outcomesOf v (k ∷ ks) = enteredOf v k ∷ outcomesOf (entryOf v k) ks
+
+-- the calls of a history since its last start; `all` where it has none
+unfoldable pub sinceStart : List ByteCall → List EntryCall → List ByteCall
+sinceStart all [] = all
+sinceStart all (start ∷ ks) = sinceStart [] ks
+sinceStart all (call k ∷ ks) = sinceStart (all ++ (k ∷ [])) ks

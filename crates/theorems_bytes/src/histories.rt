@@ -2,7 +2,7 @@
 // check asks for its proof.
 ghost use Rattle.theorems_bytes.specs.Fitting.{FitsKept};
 ghost use Rattle.theorems_bytes.specs.Images.{Images, Restarted};
-ghost use Rattle.theorems_bytes.specs.Stamps.{CarriedStampAt};
+ghost use Rattle.theorems_bytes.specs.Stamps.{HoldsLoggedAt, CarriedStampAt};
 ghost use Rattle.theorems_bytes.specs.Reports.{FinishedReportAt};
 ghost use Rattle.theorems_bytes.specs.Cases.{Computed};
 
@@ -11,9 +11,15 @@ pub fn fits_kept()
     ensures { λ _. ⌜ FitsKept ⌝ }
 {}
 
-// From start on, over any calls, state and table are the image of the clock and the table by value.
+// From start on, over any calls, `dts_start` among them, state and table are the image of the clock and the table by
+// value, and every element of both is a byte.
 pub fn images()
     ensures { λ _. ⌜ Images ⌝ }
+{}
+
+// The table holds the newest of the records that were logged since the last start, byte for byte.
+pub fn holds_logged()
+    ensures { λ _. ⌜ HoldsLoggedAt ⌝ }
 {}
 
 // A stamp that was read and is carried over the table's bytes answers exactly when it can, and then tells the
@@ -32,7 +38,8 @@ pub fn computed()
     ensures { λ _. ⌜ Computed ⌝ }
 {}
 
-// An accepted report, joined over 48 bytes and read, gives the numbers of exactly the held records that match.
+// An accepted report, joined over 48 bytes and read, gives the numbers of exactly the held records that match; it
+// closes among calls that do not end it.
 pub fn finished_report()
     ensures { λ _. ⌜ FinishedReportAt ⌝ }
 {}

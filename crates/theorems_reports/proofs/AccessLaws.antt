@@ -9,6 +9,7 @@ use lib.ListN.{length, take, drop}
 use lib.Seq.{take-at}
 use Rattle.octets.specs.Choice.{both, either}
 use Rattle.octets.specs.Parts.{over}
+use Rattle.clock.specs.Answers.{numberOf}
 use Rattle.clock.specs.declared.answers.Answer.{Answer}
 use Rattle.clock.specs.declared.state.Clock.{Clock}
 use Rattle.rows.specs.Reply.{doneB, answered, Outcome}
@@ -35,6 +36,10 @@ module _ (c : Clock) (t w o : List ℕ) where
   pub left-done : doneB (firstFailed (accessRows c t w o)) ≡ true → worldAfter (accessOf c t w o) ≡ world (done .clock) t
   unfolding answered
   left-done h = ap worldAfter (access-done c t w o h)
+
+  pub answer-done : doneB (firstFailed (accessRows c t w o)) ≡ true → doneB (accessOf c t w o .reply .answer) ≡ true
+  unfolding answered doneB numberOf
+  answer-done h = ap (λ (u : Outcome). doneB (u .reply .answer)) (access-done c t w o h)
 
   -- the bytes that answer it
   pub response-done : doneB (firstFailed (accessRows c t w o)) ≡ true → responseTo (world c t) w o ≡ responseIn done

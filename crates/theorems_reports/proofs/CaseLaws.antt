@@ -13,8 +13,10 @@ use Rattle.octets.specs.Parts.{Bytes}
 use Rattle.octets.proofs.Tests.{both-reads}
 use Rattle.filter.specs.declared.filter.Filter.the-variants.{All}
 use Rattle.theorems_reports.specs.World.{world}
-use Rattle.theorems_reports.specs.Reports.{Accepted}
-use Rattle.theorems_reports.specs.Cases.{table, records, reader, output, resultBy, Computed}
+use Rattle.theorems_reports.specs.Hearing.{calmB, allCalmB}
+use Rattle.theorems_reports.specs.Reports.{Accepted, reportBegun, segments}
+use Rattle.theorems_reports.specs.Closing.{answerOf, allQuietB, answeredIn}
+use Rattle.theorems_reports.specs.Cases.{table, records, reader, output, resultBy, among, Among, Computed}
 
 -- a list of bytes, computed
 unfoldable pub octetsB : List ℕ → Bool
@@ -38,6 +40,10 @@ pub table-accepted : Accepted (world reader table) (1 ∷ 1 ∷ []) output All
 unfolding resultBy
 table-accepted = record { asked = refl; done = refl; silent = refl }
 
+closed-among : Among (reportBegun (world reader table) (1 ∷ 1 ∷ []) output) among
+unfolding resultBy table records allCalmB calmB allQuietB answerOf answeredIn segments
+closed-among = record { quiet = refl; not-calm = refl; answered = refl; segments = refl; closed = refl }
+
 pub computed : Computed
 unfolding resultBy table records
-computed = record { bytes = table-bytes; accepted = table-accepted; all = refl; combined = refl; faulted = refl }
+computed = record { bytes = table-bytes; accepted = table-accepted; all = refl; combined = refl; faulted = refl; among = closed-among }

@@ -42,23 +42,23 @@ unfolding askingsB
 askings-read a ks h = let x = both-reads (askingB a) (askingsB ks) h in (asking-reads a (x .0), x .1)
 
 -- segments still to come
-unfoldable todo : ℕ → ℕ → List Record → ℕ
+unfoldable pub todo : ℕ → ℕ → List Record → ℕ
 todo q sent [] = 0
 todo q sent (x ∷ l) = pieces q (length (bytesOf x) - sent) + segments q l
 
-todo-all : (q : ℕ) (l : List Record) → todo q 0 l ≡ segments q l
+pub todo-all : (q : ℕ) (l : List Record) → todo q 0 l ≡ segments q l
 unfolding todo segments
 todo-all q [] = refl
 todo-all q (x ∷ l) = let e : length (bytesOf x) - 0 ≡ length (bytesOf x) = omega arith in ap (λ (n : ℕ). pieces q n + segments q l) e
 
 module _ (q sent : ℕ) (x : Record) (l : List Record) where
-  todo-last : sent < length (bytesOf x) → length (bytesOf x) ≤ sent + q → todo q sent (x ∷ l) ≡ suc (todo q 0 l)
+  pub todo-last : sent < length (bytesOf x) → length (bytesOf x) ≤ sent + q → todo q sent (x ∷ l) ≡ suc (todo q 0 l)
   unfolding todo
   todo-last h k =
       let e : (length (bytesOf x) - sent - 1) / q ≡ 0 = div-eq-of-lt (omega arith) in
       let f = todo-all q l in omega arith
 
-  todo-more : 0 < q → sent + q < length (bytesOf x) → todo q sent (x ∷ l) ≡ suc (todo q (sent + q) (x ∷ l))
+  pub todo-more : 0 < q → sent + q < length (bytesOf x) → todo q sent (x ∷ l) ≡ suc (todo q (sent + q) (x ∷ l))
   unfolding todo
   todo-more h k =
       let n = length (bytesOf x) in
@@ -66,11 +66,11 @@ module _ (q sent : ℕ) (x : Record) (l : List Record) where
       let g = ap (λ (m : ℕ). m / q) {x = n - sent - 1 - q} {y = n - (sent + q) - 1} (omega arith) in omega arith
 
   -- with a larger body no more than with a smaller one
-  fewer : (p : ℕ) → 20 ≤ p → sent + (p - 1) < length (bytesOf x) → todo 19 (sent + (p - 1)) (x ∷ l) < todo 19 sent (x ∷ l)
+  pub fewer : (p : ℕ) → 20 ≤ p → sent + (p - 1) < length (bytesOf x) → todo 19 (sent + (p - 1)) (x ∷ l) < todo 19 sent (x ∷ l)
   unfolding todo
   fewer p a h = omega arith
 
-  fewer-last : todo 19 0 l < todo 19 sent (x ∷ l)
+  pub fewer-last : todo 19 0 l < todo 19 sent (x ∷ l)
   unfolding todo
   fewer-last = omega (arith, todo-all 19 l)
 
@@ -82,7 +82,7 @@ ltb-suc m n = go (ltb m n) refl
     go false q = le-ltb (suc m) (suc n) (omega (arith, ltb-false m n q))
 
 -- one more segment, one more asking
-one-more : (m n : ℕ) (b : List ℕ) (h : Hearing) → Exact m n h → Exact (suc m) (suc n) (onward (segment b) h)
+pub one-more : (m n : ℕ) (b : List ℕ) (h : Hearing) → Exact m n h → Exact (suc m) (suc n) (onward (segment b) h)
 one-more m n b h e = record { closed = e .closed ∙ sym (ltb-suc m n); notes = λ i. ap suc (e .notes (omega arith)) }
 
 module _ (t : List ℕ) (sd : soundB t ≡ true) (hb : Bytes t) (opcode : ℕ) (f : Filter) where

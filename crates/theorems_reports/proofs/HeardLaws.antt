@@ -53,15 +53,15 @@ module _ (v w : World) (a : Call) (ks : List Call) where
   unfolding hearingBy
   closing-heard b e = rw e
 
-  undisturbed-still : heardOf v a ≡ nothing → stepOf v a ≡ w → undisturbedB v (a ∷ ks) ≡ true → undisturbedB w ks ≡ true
+  pub undisturbed-still : heardOf v a ≡ nothing → stepOf v a ≡ w → undisturbedB v (a ∷ ks) ≡ true → undisturbedB w ks ≡ true
   unfolding undisturbedB
   undisturbed-still e s u = both-reads (not (idleB (w .clock .running))) (undisturbedB w ks) (rw (e, s) at u) .1
 
-  undisturbed-ended : heardOf v a ≡ nothing → idleB (stepOf v a .clock .running) ≡ true → undisturbedB v (a ∷ ks) ≡ true → ⊥
+  pub undisturbed-ended : heardOf v a ≡ nothing → idleB (stepOf v a .clock .running) ≡ true → undisturbedB v (a ∷ ks) ≡ true → ⊥
   unfolding undisturbedB
   undisturbed-ended e i u = clash false (rw (e, i) at u) refl
 
-  undisturbed-segment : (b : List ℕ) → heardOf v a ≡ segment b → stepOf v a ≡ w → undisturbedB v (a ∷ ks) ≡ true → undisturbedB w ks ≡ true
+  pub undisturbed-segment : (b : List ℕ) → heardOf v a ≡ segment b → stepOf v a ≡ w → undisturbedB v (a ∷ ks) ≡ true → undisturbedB w ks ≡ true
   unfolding undisturbedB
   undisturbed-segment b e s u = both-reads (not (idleB (w .clock .running))) (undisturbedB w ks) (rw (e, s) at u) .1
 

@@ -9,6 +9,7 @@ pub mod HeardLaws
 pub mod BeginLaws
 pub mod CloseLaws
 pub mod CalmLaws
+pub mod AmongLaws
 pub mod ReportLaws
 pub mod ReachLaws
 pub mod CaseLaws

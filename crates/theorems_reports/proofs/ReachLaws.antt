@@ -37,7 +37,8 @@ use Rattle.theorems_reports.proofs.RequestLaws.{Right, reports, numbers
 use Rattle.theorems_reports.proofs.HeldLaws.{left-stands}
 use Rattle.theorems_reports.proofs.RunLaws.{left-ok}
 use Rattle.theorems_reports.proofs.AccessLaws.{left-refused, left-done}
-use Rattle.theorems_reports.proofs.ReportLaws.{heard-report, calm-calls}
+use Rattle.theorems_reports.proofs.ReportLaws.{heard-report, quiet-calls, calm-calls, closing-report}
+use Rattle.theorems_reports.specs.Closing.{ReachedClosing}
 use Rattle.theorems_reports.specs.Reach.{Good, Reachable, ReachedReport}
 
 -- the clock and the table as they were, but for the report
@@ -161,3 +162,9 @@ reached-report t before ks w o f h a c =
     let v = runOf (newWorld t) before in
     let b = reachable t before h .bytes in
     heard-report v w o f ks b a (calm-calls v w o f ks b a c)
+
+pub reached-closing : ReachedClosing
+reached-closing t before ks w o f h a q =
+    let v = runOf (newWorld t) before in
+    let b = reachable t before h .bytes in
+    closing-report v w o f ks b a (quiet-calls v w o f ks b a q)

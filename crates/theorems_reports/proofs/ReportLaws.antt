@@ -20,14 +20,16 @@ use Rattle.racp_notify.specs.Notify.{notifyOf}
 use Rattle.joining.specs.Joining.{emptyJoining}
 use Rattle.theorems_reports.specs.Hearing.{Hearing}
 use Rattle.theorems_reports.specs.Joined.{got, joinAll}
-use Rattle.theorems_reports.specs.Reports.{Finished, HeardReport, CalmCalls, FinishedReport}
+use Rattle.theorems_reports.specs.Reports.{reportBegun, Finished, HeardReport, CalmCalls, FinishedReport}
+use Rattle.theorems_reports.specs.Closing.{QuietCalls, ClosingReport}
 use Rattle.theorems_reports.proofs.RequestLaws.{request-report}
 use Rattle.theorems_reports.proofs.JoinLaws.{synced-empty}
 use Rattle.theorems_reports.proofs.RunLaws.{ending}
 use Rattle.theorems_reports.proofs.HeardLaws.{Holds, holds}
 use Rattle.theorems_reports.proofs.BeginLaws.{accepted}
 use Rattle.theorems_reports.proofs.CloseLaws.{closes-soon, exactly}
-use Rattle.theorems_reports.proofs.CalmLaws.{calm-undisturbed, askings-calm}
+use Rattle.theorems_reports.proofs.CalmLaws.{quiet-undisturbed, calm-quiet, askings-calm}
+use Rattle.theorems_reports.proofs.AmongLaws.{closes-among}
 
 -- the closing response in the paper's numbers
 module _ (t : List ℕ) (sd : soundB t ≡ true) (hb : Bytes t) (f : Filter) where
@@ -56,10 +58,18 @@ heard-report v w o f ks hb a u =
     let s = holds (v .table) (b .sound) hb (opcodeIn w) f ks (b .clock) 0 0 (matching f (v .table)) emptyJoining (b .runs) (synced-empty _ 0) (rw (b .is) at u) in
     rw (b .is) (record { fine = s .fine; finished = finished (v .table) w (b .sound) hb f _ (request-report w f (a .asked) .0) s })
 
-pub calm-calls : CalmCalls
-calm-calls v w o f ks hb a h =
+pub quiet-calls : QuietCalls
+quiet-calls v w o f ks hb a h =
     let b = accepted v w o f hb a in
-    rw (b .is) (calm-undisturbed (v .table) (b .sound) hb (opcodeIn w) f ks h (b .clock) 0 0 (matching f (v .table)) (b .runs))
+    rw (b .is) (quiet-undisturbed (v .table) (b .sound) hb (opcodeIn w) f ks (b .clock) 0 0 (matching f (v .table)) (b .runs) (rw (b .is) at h))
+
+pub calm-calls : CalmCalls
+calm-calls v w o f ks hb a h = quiet-calls v w o f ks hb a (calm-quiet ks (reportBegun v w o) h)
+
+pub closing-report : ClosingReport
+closing-report v w o f ks hb a u =
+    let b = accepted v w o f hb a in
+    rw (b .is) (closes-among (v .table) (b .sound) hb (opcodeIn w) f ks (b .clock) (matching f (v .table)) (b .runs) (rw (b .is) at u))
 
 pub finished-report : FinishedReport notifyOf
 finished-report v w o f hb a =

@@ -1,7 +1,7 @@
 -- One call in the middle of a report: a notification that is taken, a call that leaves report and table as they are, or one that ends it.
 -- Assumes nothing.
 use mathlib.Core.Path.{_≡_, refl, _∙_, ap}
-use mathlib.Core.Bool.{Bool, true, false}
+use mathlib.Core.Bool.{Bool, true, false, not}
 use mathlib.Core.List.{List}
 use Prim.Native.Nat.{ℕ}
 use borrow.Author.Tests.{eqb-true}
@@ -12,6 +12,7 @@ use Rattle.octets.proofs.Tests.{clash}
 use Rattle.filter.specs.declared.filter.Filter.{Filter}
 use Rattle.record.specs.declared.kinds.Record.{Record}
 use Rattle.table.specs.Table.{soundB}
+use Rattle.clock.specs.Answers.{numberOf}
 use Rattle.clock.specs.Obeys.{opcodeB, clockB}
 use Rattle.clock.specs.Events.{withBase, disconnected}
 use Rattle.clock.specs.declared.events.Event.{Event}
@@ -31,8 +32,9 @@ use Rattle.racp_access.specs.Access.{accessRows, accessed, abortedOf, accessedO
 use Rattle.racp_notify.specs.Notify.{roomB, Notice}
 use Rattle.theorems_reports.specs.World.{World, world, Call, seconds, switches, disconnect, fault, timeUpdate, recordAccess, notify, worldAfter, stepBy, stepOf}
 use Rattle.theorems_reports.specs.Hearing.{nothing, heardIn, heardBy, heardOf, calmB}
+use Rattle.theorems_reports.specs.Closing.{answerOf, quietB}
 use Rattle.theorems_reports.proofs.RequestLaws.{Right, reports, numbers, ends, refuses, request-right}
-use Rattle.theorems_reports.proofs.AccessLaws.{left-refused, left-done, rows-passed}
+use Rattle.theorems_reports.proofs.AccessLaws.{left-refused, left-done, answer-done, rows-passed}
 use Rattle.theorems_reports.proofs.RunLaws.{Runs, Told, told, notify-short, heard-unsaid}
 
 -- seconds and switches leave the report
@@ -51,7 +53,7 @@ module _ (t : List ℕ) (sd : soundB t ≡ true) (hb : Bytes t) (opcode : ℕ) (
     still : {a : Call} {d : Clock} → heardOf (world c t) a ≡ nothing → stepOf (world c t) a ≡ world d t → Runs t sd hb opcode f d k sent l
         → Step c k sent l a
     asked : {p : ℕ} {o : List ℕ} → roomB p (length o) ≡ true → Told t sd hb opcode f c p o k sent l → Step c k sent l (notify p o)
-    ended : {a : Call} → heardOf (world c t) a ≡ nothing → idleB (stepOf (world c t) a .clock .running) ≡ true → calmB a ≡ false
+    ended : {a : Call} → heardOf (world c t) a ≡ nothing → idleB (stepOf (world c t) a .clock .running) ≡ true → quietB (world c t) a ≡ false
         → Step c k sent l a
 
   -- a call that changes clock fields and not the report
@@ -72,15 +74,19 @@ module _ (t : List ℕ) (sd : soundB t ≡ true) (hb : Bytes t) (opcode : ℕ) (
     step-switches x y z = still refl refl (keeps r (obeys .switches c x y z (r .clock)) (changed-running (switches-is c x y z) refl))
 
     step-disconnect : Step c k sent l disconnect
-    unfolding heardBy stepBy calmB disconnected
-    step-disconnect = ended refl (ap (λ (e : Event). idleB (e .clock .running)) (disconnect-done c (r .clock))) refl
+    unfolding heardBy stepBy calmB answerOf doneB numberOf disconnected
+    step-disconnect =
+        let e = disconnect-done c (r .clock) in
+        ended refl (ap (λ (x : Event). idleB (x .clock .running)) e) (ap (λ (x : Event). not (doneB (x .answer))) e)
 
     step-fault : (o : List ℕ) → Step c k sent l (fault o)
-    unfolding heardBy stepBy calmB answered faultedOf
+    unfolding heardBy stepBy calmB answerOf doneB numberOf answered faultedOf
     step-fault o = go (doneB (firstFailed (tableRows c t (leb 20 (length o))))) refl
       where
         go : (b : Bool) → doneB (firstFailed (tableRows c t (leb 20 (length o)))) ≡ b → Step c k sent l (fault o)
-        go true h = ended refl (ap (λ (u : Outcome). idleB (u .reply .clock .running)) (fault-done c t o h)) refl
+        go true h =
+            let e = fault-done c t o h in
+            ended refl (ap (λ (u : Outcome). idleB (u .reply .clock .running)) e) (ap (λ (u : Outcome). not (doneB (u .reply .answer))) e)
         go false h = still refl (ap worldAfter (fault-refused c t o h)) r
 
     step-update : (w o : List ℕ) (hw : Bytes w) → Step c k sent l (timeUpdate w o hw)
@@ -93,12 +99,14 @@ module _ (t : List ℕ) (sd : soundB t ≡ true) (hb : Bytes t) (opcode : ℕ) (
 
     -- an answered Abort ends the report, a wrong one changes nothing
     step-abort : (w o : List ℕ) {q : Request} → Right (opcodeIn w) q → eqb (opcodeIn w) 3 ≡ true → requestOf w ≡ q
-        → worldAfter (accessOf c t w o) ≡ world (accessedOf c t (opcodeIn w) q .clock) t → Step c k sent l (recordAccess w o)
-    unfolding heardBy stepBy calmB opcodeB accessedOf abortedOf accessed
-    step-abort w o (reports a b) h q e = let z = eqb-true (opcodeIn w) 3 h in absurd (clash (opcodeB (opcodeIn w)) a (rw z refl))
-    step-abort w o (numbers a) h q e = let z = eqb-true (opcodeIn w) 3 h in absurd (clash (eqb (opcodeIn w) 4) a (rw z refl))
-    step-abort w o (ends a) h q e = ended {a = recordAccess w o} refl (ap (λ (v : World). idleB (v .clock .running)) e ∙ rw (r .running) refl) (rw q refl)
-    step-abort w o refuses h q e = still refl e r
+        → worldAfter (accessOf c t w o) ≡ world (accessedOf c t (opcodeIn w) q .clock) t → doneB (accessOf c t w o .reply .answer) ≡ true
+        → Step c k sent l (recordAccess w o)
+    unfolding heardBy stepBy calmB answerOf opcodeB accessedOf abortedOf accessed
+    step-abort w o (reports a b) h q e d = let z = eqb-true (opcodeIn w) 3 h in absurd (clash (opcodeB (opcodeIn w)) a (rw z refl))
+    step-abort w o (numbers a) h q e d = let z = eqb-true (opcodeIn w) 3 h in absurd (clash (eqb (opcodeIn w) 4) a (rw z refl))
+    step-abort w o (ends a) h q e d =
+        ended {a = recordAccess w o} refl (ap (λ (v : World). idleB (v .clock .running)) e ∙ rw (r .running) refl) (rw (q, d) refl)
+    step-abort w o refuses h q e d = still refl e r
 
     step-access : (w o : List ℕ) → Step c k sent l (recordAccess w o)
     unfolding heardBy stepBy
@@ -106,7 +114,7 @@ module _ (t : List ℕ) (sd : soundB t ≡ true) (hb : Bytes t) (opcode : ℕ) (
       where
         go : (b : Bool) → doneB (firstFailed (accessRows c t w o)) ≡ b → Step c k sent l (recordAccess w o)
         go true h =
-            step-abort w o (request-right w) (rw busy at (rows-passed c t w o h .1)) refl (left-done c t w o h)
+            step-abort w o (request-right w) (rw busy at (rows-passed c t w o h .1)) refl (left-done c t w o h) (answer-done c t w o h)
         go false h = still refl (left-refused c t w o h) r
 
     step-notify : (p : ℕ) (o : List ℕ) → Step c k sent l (notify p o)

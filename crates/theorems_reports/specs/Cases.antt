@@ -21,11 +21,12 @@ use Rattle.racp_request.specs.declared.request.Request.the-variants.{Report}
 use Rattle.racp_access.specs.Access.{accessOf}
 use Rattle.racp_notify.specs.Notify.{notifyOf}
 use Rattle.joining.specs.Joining.{emptyJoining}
-use Rattle.theorems_reports.specs.World.{world, Call, seconds, switches, fault, recordAccess, notify, Notifying}
-use Rattle.theorems_reports.specs.Hearing.{heardIn, heardBy, hearingBy, undisturbedB}
+use Rattle.theorems_reports.specs.World.{World, world, Call, seconds, switches, fault, recordAccess, notify, Notifying}
+use Rattle.theorems_reports.specs.Hearing.{heardIn, heardBy, hearingBy, hearingOf, undisturbedB, allCalmB}
 use Rattle.theorems_reports.specs.Joined.{Got, got, joinAll}
 use Rattle.theorems_reports.specs.Open.{callsOpen, joiningOpen}
-use Rattle.theorems_reports.specs.Reports.{Accepted, reportBegun}
+use Rattle.theorems_reports.specs.Reports.{Accepted, reportBegun, segments}
+use Rattle.theorems_reports.specs.Closing.{allQuietB, answeredIn}
 
 -- what came of a write and the calls after it: what it asks for, the number that answers it and the length of its response; that no call ended the report; each
 -- segment's header byte and the length of its body; the closing response; what the joining gives
@@ -157,9 +158,26 @@ Faulted = resultOf (1 ∷ 1 ∷ []) (ask 21 ∷ ask 20 ∷ fault output ∷ ask 
       got = got (map Is (take 1 records)) true;
     }
 
+-- Report of all records with P fixed at 20, its 24 bytes in two bodies: six segments among a refused fault, a refused Abort, seconds and an asking of
+-- 19 bytes. The seventh asking closes.
+abbrev pub among : List Call
+among = ask 20 ∷ fault (replicate 19 0) ∷ ask 20 ∷ recordAccess (3 ∷ 0 ∷ []) (replicate 19 0) ∷ ask 20 ∷ seconds 5 ∷ ask 20 ∷ ask 19 ∷ ask 20 ∷ ask 20
+    ∷ ask 20 ∷ []
+
+pub record Among (v : World) (ks : List Call) : Type 0 where
+  pub quiet : allQuietB v ks ≡ true
+  pub not-calm : allCalmB ks ≡ false
+  pub answered : answeredIn v ks ≡ replicate 7 20
+  pub segments : segments 19 records ≡ 6
+  pub closed : hearingOf v ks .closed ≡ true
+
+abbrev ClosedAmong : Type 0
+ClosedAmong = Among (reportBegun (world reader table) (1 ∷ 1 ∷ []) output) among
+
 pub record Computed : Type 0 where
   pub bytes : Bytes table
   pub accepted : Accepted (world reader table) (1 ∷ 1 ∷ []) output All
   pub all : AllReported
   pub combined : Combined
   pub faulted : Faulted
+  pub among : ClosedAmong

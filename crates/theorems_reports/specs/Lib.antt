@@ -3,6 +3,7 @@ pub mod Hearing
 pub mod Joined
 pub mod Open
 pub mod Reports
+pub mod Closing
 pub mod Cases
 pub mod Wrong
 pub mod Reach

@@ -5,7 +5,7 @@ use mathlib.Core.Bool.{Bool, true, false}
 use mathlib.Core.List.{List, [], _∷_, _++_}
 use Prim.Native.Nat.{ℕ, _+_, _-_, _%_, _<_, _≤_}
 use native.Mathlib.Omega.{arith}
-use borrow.Author.Tests.{leb-true}
+use borrow.Author.Tests.{leb-true, leb-false}
 use lib.Dec.{leb}
 use lib.IntN.{ℤ, pos, _-ℤ_, +ℤ-idr}
 use lib.ListN.{length, length-append, length-drop}
@@ -24,9 +24,10 @@ use Rattle.carry.specs.Stamp.{laterOf, movedBy, carriedOver, carriedFrom, carry
 use Rattle.carry.specs.declared.stamp.Carried.the-variants.{To, NotHeld, FaultAmong}
 use Rattle.theorems_reports.specs.World.{World, newWorld, Call, runOf}
 use Rattle.theorems_reports.specs.Reach.{Good}
-use Rattle.theorems_stamps.specs.Stamps.{ranOf, loggedOf, allHeldB, HoldsLogged, Carries, CarriedStamp}
+use Rattle.theorems_stamps.specs.Stamps.{ranOf, loggedOf, carriedAfter, sameRecordsB, allHeldB, HoldsLogged, Carries, CarriedStamp}
 use Rattle.theorems_stamps.proofs.Differences.{diff-add, diff-is, diff-fits}
 use Rattle.theorems_reports.proofs.ReachLaws.{reachable}
+use Rattle.theorems_stamps.proofs.SameLaws.{same-records, same-itself, other-length}
 use Rattle.theorems_stamps.proofs.WentLaws.{news, olds, Went, went-run}
 
 -- the newest of a list: all of it, and of the newest ones those that came last
@@ -88,6 +89,17 @@ module _ (v w : World) (l : List Record) (n : ℕ) (g : Good v) (d : Went v w l 
       let e = d .kept (held (v .table)) held-all in
       ap (newest (length l)) e ∙ newest-last (capacity (w .table)) (held (v .table)) l (rw e at h)
 
+  -- so the test by the records is one of the counts
+  held-counts : sameRecordsB (newest (length l) (held (w .table))) l ≡ leb (length l) (length (held (w .table)))
+  held-counts = go (leb (length l) (length (held (w .table)))) refl
+    where
+      go : (b : Bool) → leb (length l) (length (held (w .table))) ≡ b → sameRecordsB (newest (length l) (held (w .table))) l ≡ b
+      go true e = rw (are-logged (leb-true _ _ e)) (same-itself l)
+      go false e =
+          let x = leb-false (length l) (length (held (w .table))) e in
+          let y = length-drop (length (held (w .table)) - length l) (held (w .table)) in
+          other-length (newest (length l) (held (w .table))) l (λ z. omega arith)
+
 module _ (v w : World) (l : List Record) (n : ℕ) (g : Good v) (d : Went v w l n) (few : length l < 65536) where
   -- the ring and the numbers are gone
   carry-is : (stamp : ℕ) → carryOf stamp (next (v .table)) (w .table)
@@ -123,15 +135,25 @@ module _ (v w : World) (l : List Record) (n : ℕ) (g : Good v) (d : Went v w l 
 to-is : (x z : ℤ) → To x ≡ To z → x ≡ z
 to-is x z h = cc
 
+pub by-counts : (v : World) (after : List Call) → Good v
+    → allHeldB v after ≡ leb (length (loggedOf v after)) (length (held (runOf v after .table)))
+unfolding allHeldB
+by-counts v after g = held-counts v (runOf v after) (loggedOf v after) (ranOf v after) g (went-run after v g)
+
 pub carries : (v : World) (after : List Call) → Good v → length (loggedOf v after) < 65536 → Carries carryOf v after
 unfolding carryingNumber
 carries v after g few =
     let w = runOf v after in
     let l = loggedOf v after in
     let d = went-run after v g in
-    let not-held = is-not-held v w l (ranOf v after) g d few (v .clock .time .base) in
-    let fault = is-fault v w l (ranOf v after) g d few (v .clock .time .base) in
-    let sum = is-sum v w l (ranOf v after) g d few in
+    let c = sym (by-counts v after g) in
+    let not-held : allHeldB v after ≡ false → carriedAfter carryOf v after ≡ NotHeld =
+    λ h. is-not-held v w l (ranOf v after) g d few (v .clock .time .base) (c ∙ h) in
+    let fault : allHeldB v after ≡ true → noFaultB l ≡ false → carriedAfter carryOf v after ≡ FaultAmong =
+    λ h. is-fault v w l (ranOf v after) g d few (v .clock .time .base) (c ∙ h) in
+    let sum : allHeldB v after ≡ true → noFaultB l ≡ true
+    → carriedAfter carryOf v after ≡ To (pos (v .clock .time .base + news l) -ℤ pos (olds l)) =
+    λ h. is-sum v w l (ranOf v after) g d few (c ∙ h) in
     record {
       exactly = by-tests (allHeldB v after) (noFaultB l) (λ h. simp (not-held h, h)) (λ h k. simp (fault h k, h, k)) (λ h k. simp (sum h k, h, k));
       difference = λ z e.
@@ -168,7 +190,15 @@ logged-later : (t : List ℕ) (before after : List Call) → sizeB (length t) �
 logged-later t before after h k =
     let v = runOf (newWorld t) before in
     let g = reachable t before h in
-    are-logged v (runOf v after) (loggedOf v after) (ranOf v after) g (went-run after v g) (leb-true _ _ k)
+    are-logged v (runOf v after) (loggedOf v after) (ranOf v after) g (went-run after v g) (leb-true _ _ (sym (by-counts v after g) ∙ k))
 
 pub holds-logged : HoldsLogged
-holds-logged = record { holds = logged-held; counts = logged-number; later = logged-later }
+holds-logged =
+    record {
+      holds = logged-held;
+      counts = logged-number;
+      same = same-records;
+      same-back = same-itself;
+      by-counts = λ t before after h. by-counts (runOf (newWorld t) before) after (reachable t before h);
+      later = logged-later;
+    }

@@ -6,14 +6,15 @@ use Prim.Native.Nat.{ℕ}
 use lib.IntN.{pos, negsuc}
 use lib.ListN.{length, replicate}
 use Rattle.octets.specs.Numbers.{bytes4}
-use Rattle.octets.specs.Parts.{Bytes}
+use Rattle.octets.specs.Parts.{Bytes, sameB}
+use Rattle.record_write.specs.Layout.{updateValues, faultValues}
 use Rattle.table.specs.Table.{next}
 use Rattle.carry.specs.Stamp.{laterOf, carriedOver, carriedFrom, carryOf, noFaultB, movedBy}
 use Rattle.carry.specs.declared.stamp.Carried.{Carried}
 use Rattle.carry.specs.declared.stamp.Carried.the-variants.{To, NotHeld, FaultAmong}
 use Rattle.theorems_reports.specs.World.{newWorld, Call, seconds, switches, fault, timeUpdate, recordAccess, notify, runOf}
 use Rattle.theorems_reports.specs.Open.{callsOpen}
-use Rattle.theorems_stamps.specs.Stamps.{ranIn, ranOf, loggedIn, loggedOf, carriedAfter, allHeldB}
+use Rattle.theorems_stamps.specs.Stamps.{ranIn, ranOf, loggedIn, loggedOf, carriedAfter, valuesOf, sameRecordsB, allHeldB}
 
 -- the stamp and its number, how many records came after it, the theorem's two tests, what carrying gives; the clock then, and the seconds
 -- that ran
@@ -35,7 +36,7 @@ abbrev pub output : List ℕ
 output = replicate 244 0
 
 unfoldable pub resultOf : List ℕ → List Call → List Call → Result
-unfolding callsOpen laterOf movedBy carriedOver carriedFrom carryOf runOf ranIn ranOf loggedIn loggedOf noFaultB
+unfolding callsOpen laterOf movedBy carriedOver carriedFrom carryOf runOf ranIn ranOf loggedIn loggedOf noFaultB sameB updateValues faultValues valuesOf sameRecordsB allHeldB
 resultOf t before after =
     let v = runOf (newWorld t) before in
     record {

@@ -8,7 +8,10 @@ use lib.Dec.{leb, eqb}
 use lib.IntN.{ℤ, pos, _-ℤ_}
 use lib.ListN.{length}
 use Rattle.octets.specs.Choice.{both, pick}
+use Rattle.octets.specs.Parts.{sameB}
+use Rattle.record_write.specs.Layout.{updateValues, faultValues}
 use Rattle.record.specs.declared.kinds.Record.{Record}
+use Rattle.record.specs.declared.kinds.Record.the-variants.{TimeUpdate, TimeFault}
 use Rattle.table.specs.Table.{slotsIn, sizeB, next, held}
 use Rattle.table_write.specs.Append.{newest}
 use Rattle.clock.specs.Events.{secondsOf}
@@ -63,17 +66,35 @@ Carrying = ℕ → ℕ → List ℕ → Carried
 abbrev pub carriedAfter : Carrying → World → List Call → Carried
 carriedAfter carry v after = carry (v .clock .time .base) (next (v .table)) (runOf v after .table)
 
--- are all records that the calls logged still held?
-abbrev pub allHeldB : World → List Call → Bool
-allHeldB v after = leb (length (loggedOf v after)) (length (held (runOf v after .table)))
+-- a record's type and fields, in the order of the paper
+unfoldable pub valuesOf : Record → List ℕ
+valuesOf (TimeUpdate u) = updateValues u
+valuesOf (TimeFault f) = faultValues f
 
--- The log holds the newest of the records that the calls logged, oldest first, as many as it has slots; its next number counts them; and
--- `allHeldB` is the test that all of the last calls' records are among them.
+-- two rows of records are the same, field by field
+unfoldable pub sameRecordsB : List Record → List Record → Bool
+sameRecordsB [] [] = true
+sameRecordsB [] (y ∷ b) = false
+sameRecordsB (x ∷ a) [] = false
+sameRecordsB (x ∷ a) (y ∷ b) = both (sameB (valuesOf x) (valuesOf y)) (sameRecordsB a b)
+
+-- Are all records that the calls logged still held? They are the newest of the held ones.
+unfoldable pub allHeldB : World → List Call → Bool
+allHeldB v after = let l = loggedOf v after in sameRecordsB (newest (length l) (held (runOf v after .table))) l
+
+-- The log holds the newest of the records that the calls logged, oldest first, as many as it has slots; its next number counts them. What
+-- `allHeldB` tests is that the last calls' records are the newest of the held ones, no more and no less; to compare their counts would give
+-- the same answer.
 pub record HoldsLogged : Type 0 where
   pub holds : (t : List ℕ) (calls : List Call) → sizeB (length t) ≡ true
       → held (runOf (newWorld t) calls .table) ≡ newest (slotsIn (length t)) (loggedOf (newWorld t) calls)
   pub counts : (t : List ℕ) (calls : List Call) → sizeB (length t) ≡ true
       → next (runOf (newWorld t) calls .table) ≡ length (loggedOf (newWorld t) calls) % 65536
+  pub same : (a b : List Record) → sameRecordsB a b ≡ true → a ≡ b
+  pub same-back : (a : List Record) → sameRecordsB a a ≡ true
+  pub by-counts : (t : List ℕ) (before after : List Call) → sizeB (length t) ≡ true
+      → allHeldB (runOf (newWorld t) before) after
+      ≡ leb (length (loggedOf (runOf (newWorld t) before) after)) (length (held (runOf (runOf (newWorld t) before) after .table)))
   pub later : (t : List ℕ) (before after : List Call) → sizeB (length t) ≡ true → allHeldB (runOf (newWorld t) before) after ≡ true
       → newest (length (loggedOf (runOf (newWorld t) before) after)) (held (runOf (runOf (newWorld t) before) after .table))
       ≡ loggedOf (runOf (newWorld t) before) after
