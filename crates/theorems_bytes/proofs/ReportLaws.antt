@@ -303,7 +303,7 @@ asked-begun v w o hw ks x =
     ap (λ (b : ByteWorld). askedAt b ks) (begun-is v w o hw x) ∙ asked-is ks (reportBegun v w o) (begun-fit v w o hw x)
 
 -- quiet calls end no report
-undisturbed : (v : World) (w o : List ℕ) (hw : Bytes w) (f : Filter) (ks : List ByteCall) → Fit v → Accepted v w o f
+pub undisturbed : (v : World) (w o : List ℕ) (hw : Bytes w) (f : Filter) (ks : List ByteCall) → Fit v → Accepted v w o f
     → allQuietAt (stepAt (imageIn v) (racpWrite w o hw)) ks ≡ true → undisturbedB (reportBegun v w o) (callsOf ks) ≡ true
 undisturbed v w o hw f ks x c h =
     quiet-calls v w o f (callsOf ks) (x .good .bytes) c

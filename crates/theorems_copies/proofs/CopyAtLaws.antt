@@ -31,14 +31,13 @@ use Rattle.server_bytes.specs.Start.{startAt}
 use Rattle.tablet_bytes.specs.Calls.{JoinedBytes, joinResult, keepAt, carrying, stampAfter, carryAt}
 use Rattle.theorems_calls.proofs.JoinedLaws.{keeps-ranges}
 use Rattle.theorems_entry.proofs.PromiseLaws.{composes}
-use Rattle.theorems_reports.specs.World.{World, newWorld, runOf}
-use Rattle.theorems_reports.specs.Hearing.{Hearing, hearingOf, allCalmB}
+use Rattle.theorems_reports.specs.World.{World, newWorld}
+use Rattle.theorems_reports.specs.Hearing.{Hearing, hearingOf}
 use Rattle.theorems_reports.specs.Reports.{reportBegun}
-use Rattle.theorems_reports.proofs.ReportLaws.{calm-calls}
-use Rattle.theorems_bytes.specs.World.{ByteWorld, ByteCall, racpWrite, stepAt, callsOf, imageIn}
-use Rattle.theorems_bytes.specs.Reports.{AcceptedAt, hearingAt}
+use Rattle.theorems_bytes.specs.World.{ByteWorld, ByteCall, racpWrite, stepAt, callsOf, imageIn, historyOf}
+use Rattle.theorems_bytes.specs.Reports.{AcceptedAt, hearingAt, allQuietAt}
 use Rattle.theorems_bytes.proofs.ImageLaws.{Fit, reached, reached-fit}
-use Rattle.theorems_bytes.proofs.ReportLaws.{accepted-is, heard-is}
+use Rattle.theorems_bytes.proofs.ReportLaws.{accepted-is, heard-is, undisturbed}
 use Rattle.theorems_copies.specs.Copies.{Copy, copy, keepHeard, keepAll, copyOf, CopyOf}
 use Rattle.theorems_copies.specs.CopiesAt.{zeroB, afterKeepingAt, keepHeardAt, keepAllAt, copyAt, FetchedCopyAt, CarriedOverCopyAt}
 use Rattle.theorems_copies.proofs.CopyLaws.{fetched-copy, carried-over-copy}
@@ -79,28 +78,27 @@ copy-is z u notes hz hu =
 
 -- what is fetched at b
 abbrev Fetches : (w o : List ℕ) → Bytes w → List ByteCall → List ℕ → List ℕ → ByteWorld → Type 0
-Fetches w o hw ks z u b = AcceptedAt b w o hw All → hearingAt (stepAt b (racpWrite w o hw)) ks .closed ≡ true
+Fetches w o hw ks z u b = AcceptedAt b w o hw All → allQuietAt (stepAt b (racpWrite w o hw)) ks ≡ true
+    → hearingAt (stepAt b (racpWrite w o hw)) ks .closed ≡ true
     → let c = copyAt z u (hearingAt (stepAt b (racpWrite w o hw)) ks .notes) in (c .fine ≡ true) × CopyOf (slotsIn (length u)) (b .table) (c .table)
 
 at-image : (v : World) (w o : List ℕ) (hw : Bytes w) (ks : List ByteCall) (z u : List ℕ) → Fit v → length z ≡ stateBytes → sizeB (length u) ≡ true
-    → allCalmB (callsOf ks) ≡ true → Fetches w o hw ks z u (imageIn v)
-at-image v w o hw ks z u x hz hu calm a closed =
+    → Fetches w o hw ks z u (imageIn v)
+at-image v w o hw ks z u x hz hu a quiet closed =
     let accepted = accepted-is v w o hw All x a in
     let heard = heard-is v w o hw ks x in
     let n = size-reads (length u) hu in
-    let undisturbed = calm-calls v w o All (callsOf ks) (x .good .bytes) accepted calm in
     let notes : List (List ℕ) = hearingAt (stepAt (imageIn v) (racpWrite w o hw)) ks .notes in
-    let d = fetched-copy v w o (callsOf ks) (slotsIn (length u)) (x .good .bytes) (n .some) (n .few) accepted undisturbed
+    let d = fetched-copy v w o (callsOf ks) (slotsIn (length u)) (x .good .bytes) (n .some) (n .few) accepted (undisturbed v w o hw All ks x accepted quiet)
     (ap (λ (h : Hearing). h .closed) (sym heard) ∙ closed) in
     let c : copyOf (slotsIn (length u)) (hearingOf (reportBegun v w o) (callsOf ks) .notes) ≡ copyAt z u notes =
     ap (λ (h : Hearing). copyOf (slotsIn (length u)) (h .notes)) (sym heard) ∙ sym (copy-is z u notes hz hu) in
     subst (λ (k : Copy). (k .fine ≡ true) × CopyOf (slotsIn (length u)) (v .table) (k .table)) c d
 
 pub fetched-copy-at : FetchedCopyAt
-fetched-copy-at s t before w o hw ks z u hs ht hz hu a calm closed =
-    let e = reached s t hs ht before in
-    subst (Fetches w o hw ks z u) (sym e)
-    (at-image (runOf (newWorld t) (callsOf before)) w o hw ks z u (reached-fit s t hs ht before) hz hu calm) a closed
+fetched-copy-at s t before w o hw ks z u hs ht hz hu =
+    subst (Fetches w o hw ks z u) (sym (reached s t hs ht before))
+    (at-image (historyOf (newWorld t) before) w o hw ks z u (reached-fit s t hs ht before) hz hu)
 
 pub carried-over-copy-at : CarriedOverCopyAt
 unfolding carryAt

@@ -15,9 +15,8 @@ use Rattle.state_bytes.specs.State.{stateBytes}
 use Rattle.state_bytes.specs.JoiningState.{joiningBytes}
 use Rattle.server_bytes.specs.Start.{startAt}
 use Rattle.tablet_bytes.specs.Calls.{joinAt, KeptBytes, keepAt, carryAt}
-use Rattle.theorems_reports.specs.Hearing.{allCalmB}
-use Rattle.theorems_bytes.specs.World.{ByteCall, racpWrite, stepAt, runAt, startedAt, callsOf}
-use Rattle.theorems_bytes.specs.Reports.{hearingAt, AcceptedAt}
+use Rattle.theorems_bytes.specs.World.{ByteCall, racpWrite, stepAt, EntryCall, historyAt, startedAt}
+use Rattle.theorems_bytes.specs.Reports.{hearingAt, AcceptedAt, allQuietAt}
 use Rattle.theorems_copies.specs.Copies.{Copy, copy, CopyOf}
 
 -- the result 0
@@ -41,13 +40,13 @@ keepAllAt c j (n ∷ ns) = keepAllAt (keepHeardAt c (joinAt j n .joining) (joinA
 abbrev pub copyAt : List ℕ → List ℕ → List (List ℕ) → Copy
 copyAt z u notes = keepAllAt (copy (startAt z u .table) true) (replicate joiningBytes 0) notes
 
--- Theorem Fetched copy, over bytes, from start: any entry points, then a report of all records that was accepted, then any without a disconnect, a
--- fault and an Abort, up to the closing response.
+-- Theorem Fetched copy, over bytes, from start: any entry points, then a report of all records that was accepted, then any calls that end no report, up to
+-- the closing response.
 abbrev pub FetchedCopyAt : Type 0
-FetchedCopyAt = (s t : List ℕ) (before : List ByteCall) (w o : List ℕ) (hw : Bytes w) (ks : List ByteCall) (z u : List ℕ)
+FetchedCopyAt = (s t : List ℕ) (before : List EntryCall) (w o : List ℕ) (hw : Bytes w) (ks : List ByteCall) (z u : List ℕ)
     → length s ≡ stateBytes → sizeB (length t) ≡ true → length z ≡ stateBytes → sizeB (length u) ≡ true
-    → let b = runAt (startedAt s t) before in
-    AcceptedAt b w o hw All → allCalmB (callsOf ks) ≡ true → hearingAt (stepAt b (racpWrite w o hw)) ks .closed ≡ true
+    → let b = historyAt (startedAt s t) before in
+    AcceptedAt b w o hw All → allQuietAt (stepAt b (racpWrite w o hw)) ks ≡ true → hearingAt (stepAt b (racpWrite w o hw)) ks .closed ≡ true
     → let c = copyAt z u (hearingAt (stepAt b (racpWrite w o hw)) ks .notes) in (c .fine ≡ true) × CopyOf (slotsIn (length u)) (b .table) (c .table)
 
 -- `dts_carry` over a copy leaves the result and the stamp that it leaves over the reader's own table, wherever the copy has a slot for each later record.
