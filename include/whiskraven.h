@@ -27,9 +27,9 @@
  *      -2  the state is damaged, the log is sound. Keep the log: dts_start with the state and a spare table
  *          makes a new clock, and dts_fault with the kept table logs that the time was lost. Stamps from
  *          before are then refused with 13, as they must be.
- *      -1  the log is damaged. Take no requests but tell the fitter, who may still read the bytes. Starting
- *          anew is a person's choice: the numbers begin at 0 again, so it is another reader from then on, and
- *          no stamp noted before may be carried over its log.
+ *      -1  the log is damaged. Leave the bytes as they are and tell the fitter, who may still read them; until
+ *          then requests get DTS_ATT_UNLIKELY_ERROR. Starting anew is a person's choice: the numbers begin at
+ *          0 again, so it is another reader from then on, and no stamp noted before may be carried over its log.
  * Store state and table together, as one write that is there whole or not at all, and before the response
  * goes out. Buffers of two moments can both be sound, and then the log does not show how the clock was set:
  * where you can't be sure that they belong together, call dts_fault. Seconds alone need no storing where your
