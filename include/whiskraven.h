@@ -2,10 +2,10 @@
  * Whiskraven: a Bluetooth Device Time Service reader's clock with its log of clock changes, the log's
  * transfer over the air, and the tablet's half that reads it.
  *
- * One header, one archive: `rt staticlib firmware` writes target/staticlib/libfirmware.a (x86-64). Link it
- * beside your program; it calls nothing but memcpy, memmove, memset and memcmp, which C compilers take for
- * granted, allocates nothing and keeps nothing between calls. All that a reader is stands in two buffers that
- * the caller owns and lends: a state and a log table.
+ * ONE LIBRARY. This header and libwhiskraven.a, which tools/archive makes for x86-64 and for 64-bit Arm. Its
+ * names begin with dts_ and DTS_, for the service. It calls nothing but memcpy, memmove, memset and memcmp,
+ * which C compilers take for granted, allocates nothing and keeps nothing between calls. All that a reader is
+ * stands in two buffers that the caller owns and lends: a state and a log table.
  *
  * ANSWERS. Every function returns an int32_t. At least 0: done, and the answer is what the function says.
  * Below 0: refused, and minus the answer is the refusal number (DTS_REFUSED_..). Refusals are tested in
@@ -17,8 +17,40 @@
  * keep their old values. Where a parameter is const, the buffer is only read. Numbers in buffers are little
  * endian. docs/FORMAT.md has the log table, the records and the notifications byte by byte.
  *
- * WHAT NO PROOF COVERS. The functions are proved for all bytes of all lent buffers. They rely on the
- * caller for this, and cannot see whether it holds:
+ * POWER ON. A reader keeps its state and its table over power-off. dts_start is for a new reader only: it
+ * erases the log, and with it what every stamp needs that was noted before.
+ *   1. A new reader, which your own mark in its memory tells: dts_start. Set the mark when that is stored.
+ *   2. Any other: bring both buffers back and call dts_disconnect, since no client is there any more. Then
+ *      dts_device_time, which only reads, tests both:
+ *      10  both are sound and stay as they are. Then dts_seconds with the seconds since they were stored.
+ *          If your hardware can't tell them, the clock has lost its time: dts_fault.
+ *      -2  the state is damaged, the log is sound. Keep the log: dts_start with the state and a spare table
+ *          makes a new clock, and dts_fault with the kept table logs that the time was lost. Stamps from
+ *          before are then refused with 13, as they must be.
+ *      -1  the log is damaged. Leave the bytes as they are and tell the fitter, who may still read them; until
+ *          then requests get DTS_ATT_UNLIKELY_ERROR. Starting anew is a person's choice: the numbers begin at
+ *          0 again, so it is another reader from then on, and no stamp noted before may be carried over its log.
+ * Store state and table together, as one write that is there whole or not at all, and before the response
+ * goes out. Buffers of two moments can both be sound, and then the log does not show how the clock was set:
+ * where you can't be sure that they belong together, call dts_fault. Seconds alone need no storing where your
+ * hardware counts on: they are handed over at power-on.
+ *
+ * REFUSALS AND THE CLIENT. dts_att_error gives the ATT error of 4, 5 and 6. For 1, 2 and 3 it gives 0: the
+ * client did nothing wrong. It must have an error response all the same, DTS_ATT_UNLIKELY_ERROR; and those
+ * refusals must not get lost, for 1 and 2 say that memory is damaged, and 3 that the firmware lends too little.
+ * Where dts_notify gives one of them, its report can't go on: close the connection and call dts_disconnect.
+ * A switch counts as the client wrote it only where dts_switches answered 0. A write that is taken is answered
+ * in this order: the write response, then the indication.
+ *
+ * VERSION. DTS_VERSION_MINOR rises where something is added: what compiled before still does, and means the
+ * same. DTS_VERSION_MAJOR rises where that is not so, or where a state or a table that was stored before would
+ * mean something else. Header and archive belong together: take both from one folder.
+ *
+ * WHAT THE PROOF COVERS. Each function is proved, for all bytes of all lent buffers and all numbers, to give
+ * the answer and the bytes that docs/PROMISES.md says, to do nothing undefined, and to return. That is said of
+ * the program in its own language, Rattle. The step from there to the archive's machine code is the compiler's
+ * (LLVM), for either processor, and no proof covers it: the archive is tested instead, call by call against a
+ * second implementation. The functions rely on the caller for what follows, and cannot see whether it holds:
  *   - each pointer is valid for as many bytes as its length says, for writing too where it is not const;
  *     it is not NULL, even where the length is 0;
  *   - no length is larger than its buffer, and none exceeds PTRDIFF_MAX;
@@ -29,23 +61,54 @@
  *   - the bytes reach the table's memory and stay there: a write to flash, a loss of power and the radio are
  *     the caller's.
  *
- * EXAMPLE. The same program stands in tests/c/example.c, where the gate compiles and runs it.
+ * EXAMPLE. The heart of a reader's firmware. tests/c/example.c has these lines too, with stand-ins for flash
+ * and radio; the gate compares the two, compiles that file and runs it.
  *
- *     uint8_t state[DTS_STATE_BYTES], table[DTS_TABLE_BYTES(4)], out[DTS_OUT_BYTES];
- *     const uint8_t propose[] = {0x02, 0x43, 0x00, 0x00, 0x08, 0xAF, 0x2F, 0x04, 0x00, 0x02, 0x01};
- *     int32_t answer;
- *     int64_t carried;
+ *     // Kept over power-off, together.
+ *     static uint8_t state[DTS_STATE_BYTES], table[DTS_TABLE_BYTES(4)];
  *
- *     dts_start(state, sizeof state, table, sizeof table);        a new reader: 2020-01-01, in time fault
- *     dts_switches(state, sizeof state, 1, 1, 1);                 the client has subscribed to all three
- *     answer = dts_dtcp_write(state, sizeof state, table, sizeof table, propose, sizeof propose,
- *                             out, sizeof out);
- *     if (answer < 0)                                             refused: nothing has changed
- *         send_error_response(dts_att_error((uint32_t)-answer));  0x0D, 0xFD or 0xFE; 0: not the client's fault
- *     else                                                        here 3: indicate out[0..3) = 09 02 01
+ *     // At least 0, or the refusal that a person must see. The seconds are those since both were stored.
+ *     static int32_t power_on(int new_reader, uint32_t seconds_since)
+ *     {
+ *         uint8_t out[DTS_OUT_BYTES], spare[DTS_TABLE_BYTES(1)];
+ *         int32_t answer;
+ *
+ *         if (new_reader)
+ *             return dts_start(state, sizeof state, table, sizeof table);
+ *         dts_disconnect(state, sizeof state); // a state that this refuses is refused below too
+ *         answer = dts_device_time(state, sizeof state, table, sizeof table, out, sizeof out);
+ *         if (answer == -DTS_REFUSED_STATE) {
+ *             dts_start(state, sizeof state, spare, sizeof spare);
+ *             return dts_fault(state, sizeof state, table, sizeof table, out, sizeof out);
+ *         }
+ *         return answer < 0 ? answer : dts_seconds(state, sizeof state, seconds_since);
+ *     }
+ *
+ *     // The ATT error for an answer below 0.
+ *     static uint8_t att_error(int32_t answer)
+ *     {
+ *         int32_t error = dts_att_error((uint32_t)-answer);
+ *
+ *         if (error != 0)
+ *             return (uint8_t)error;
+ *         show_trouble(answer); // not the client's fault, so a person must see it
+ *         return DTS_ATT_UNLIKELY_ERROR;
+ *     }
+ *
+ *     // The client has written to the Device Time Control Point.
+ *     static void dtcp_written(const uint8_t *write, size_t length)
+ *     {
+ *         uint8_t out[DTS_OUT_BYTES];
+ *         int32_t answer = dts_dtcp_write(state, sizeof state, table, sizeof table, write, length, out, sizeof out);
+ *
+ *         if (answer < 0) { // nothing has changed
+ *             send_error_response(att_error(answer));
+ *             return;
+ *         }
+ *         store(); // both buffers, before the client hears of it
+ *         send_write_response();
  *         send_indication(out, (size_t)answer);
- *     dts_seconds(state, sizeof state, 50);                       the clock shows 800,000,050
- *     dts_carry(800000050, 1, table, sizeof table, &carried);     no record since: carried is 800,000,050
+ *     }
  */
 #ifndef WHISKRAVEN_H
 #define WHISKRAVEN_H
@@ -56,6 +119,10 @@
 #ifdef __cplusplus
 extern "C" {
 #endif
+
+/* This header's version: see VERSION above. */
+#define DTS_VERSION_MAJOR 1
+#define DTS_VERSION_MINOR 0
 
 /* Sizes, in bytes. */
 enum {
@@ -104,18 +171,129 @@ enum {
     DTS_REFUSED_NOT_NEXT = 23     /* the number of a record to be kept does not follow */
 };
 
-/* ATT errors of refusals 4, 5, 6: see dts_att_error. */
+/* ATT errors: of refusals 4, 5, 6, as dts_att_error gives them; and for 1, 2, 3, which are not the client's. */
 enum {
     DTS_ATT_INVALID_LENGTH = 0x0D,
     DTS_ATT_CCC_IMPROPERLY_CONFIGURED = 0xFD,
-    DTS_ATT_PROCEDURE_IN_PROGRESS = 0xFE
+    DTS_ATT_PROCEDURE_IN_PROGRESS = 0xFE,
+    DTS_ATT_UNLIKELY_ERROR = 0x0E
+};
+
+/* Bluetooth's assigned numbers of the service and its characteristics, 16-bit UUIDs. */
+enum {
+    DTS_UUID_SERVICE = 0x1847,
+    DTS_UUID_FEATURE = 0x2B8E,
+    DTS_UUID_PARAMETERS = 0x2B8F,
+    DTS_UUID_DEVICE_TIME = 0x2B90,
+    DTS_UUID_DTCP = 0x2B91,       /* the Device Time Control Point; a client has its indications */
+    DTS_UUID_LOG = 0x2B92,        /* Time Change Log Data; a client has its notifications */
+    DTS_UUID_RACP = 0x2A52        /* the Record Access Control Point; a client has its indications */
+};
+
+/* Bits of a status: of the clock, in Device Time, and in records. */
+enum {
+    DTS_STATUS_TIME_FAULT = 0x0001,
+    DTS_STATUS_UTC_ALIGNED = 0x0002,
+    DTS_STATUS_QUALIFIED_LOCAL = 0x0004,
+    DTS_STATUS_ASKS_UPDATE = 0x0008,
+    DTS_STATUS_EPOCH_2000 = 0x0010 /* set in every status */
+};
+
+/* The bytes that stand for unknown. */
+enum {
+    DTS_UNKNOWN_ZONE = 128,
+    DTS_UNKNOWN_DST = 255,
+    DTS_UNKNOWN_ACCURACY = 255
+};
+
+/* The Device Time Control Point: opcodes of a write and of the response. */
+enum {
+    DTS_DTCP_PROPOSE_OPCODE = 2,
+    DTS_DTCP_FORCE_OPCODE = 3,
+    DTS_DTCP_RESPONSE_OPCODE = 9
+};
+
+/* Flags of a proposed time, which follow the opcode; the other bits are ignored. */
+enum {
+    DTS_FLAG_UTC_ALIGNED = 0x0001,
+    DTS_FLAG_QUALIFIED_LOCAL = 0x0002,
+    DTS_FLAG_EPOCH_2000 = 0x0040  /* must be set */
+};
+
+/* Values in its response. */
+enum {
+    DTS_DTCP_SUCCESS = 1,
+    DTS_DTCP_OPCODE_NOT_SUPPORTED = 2,
+    DTS_DTCP_INVALID_OPERAND = 3,
+    DTS_DTCP_PROCEDURE_REJECTED = 5 /* then two bytes of DTS_REJECTED_.. */
+};
+
+/* Why a time was rejected: all that apply. */
+enum {
+    DTS_REJECTED_UNREALISTIC = 0x0001,
+    DTS_REJECTED_OUT_OF_RANGE = 0x0004,
+    DTS_REJECTED_LOWER_QUALITY = 0x0020,
+    DTS_REJECTED_WRONG_EPOCH = 0x0040
+};
+
+/* The Record Access Control Point: opcodes of a write.. */
+enum {
+    DTS_RACP_REPORT_OPCODE = 1,
+    DTS_RACP_ABORT_OPCODE = 3,
+    DTS_RACP_NUMBER_OPCODE = 4,
+    DTS_RACP_COMBINED_OPCODE = 7
+};
+
+/* ..and of a response. */
+enum {
+    DTS_RACP_NUMBER_RESPONSE = 5, /* then 0 and the count, 2 bytes */
+    DTS_RACP_CODE_RESPONSE = 6,   /* then 0, the opcode that was asked, a code */
+    DTS_RACP_COMBINED_RESPONSE = 8 /* then 0 and the count, 2 bytes */
+};
+
+/* Operators; the operand of 2 to 4 begins with DTS_RACP_SEQUENCE_TYPE. */
+enum {
+    DTS_RACP_NULL = 0,            /* of an Abort, and of responses */
+    DTS_RACP_ALL_RECORDS = 1,
+    DTS_RACP_AT_MOST = 2,
+    DTS_RACP_AT_LEAST = 3,
+    DTS_RACP_WITHIN_RANGE = 4,
+    DTS_RACP_FIRST_RECORD = 5,
+    DTS_RACP_LAST_RECORD = 6
+};
+enum { DTS_RACP_SEQUENCE_TYPE = 1 };
+
+/* Codes in a response. */
+enum {
+    DTS_RACP_SUCCESS = 1,
+    DTS_RACP_OPCODE_NOT_SUPPORTED = 2,
+    DTS_RACP_INVALID_OPERATOR = 3,
+    DTS_RACP_OPERATOR_NOT_SUPPORTED = 4,
+    DTS_RACP_INVALID_OPERAND = 5,
+    DTS_RACP_NO_RECORDS_FOUND = 6,
+    DTS_RACP_ABORT_UNSUCCESSFUL = 7,
+    DTS_RACP_PROCEDURE_NOT_COMPLETED = 8,
+    DTS_RACP_OPERAND_NOT_SUPPORTED = 9
+};
+
+/* The header byte of a notification: two bits, and above them the counter. */
+enum {
+    DTS_SEGMENT_FIRST = 0x01,
+    DTS_SEGMENT_LAST = 0x02,
+    DTS_SEGMENT_COUNTER_SHIFT = 2
+};
+
+/* A record's type. */
+enum {
+    DTS_TYPE_TIME_FAULT = 0,
+    DTS_TYPE_TIME_UPDATE = 1
 };
 
 /* Where dts_read puts what; 0 where the record's type has no such field. */
 enum {
     DTS_FIELD_SEQUENCE = 0,
-    DTS_FIELD_TYPE = 1,           /* 0 Time_Fault, 1 Time_Update */
-    DTS_FIELD_STATUS = 2,
+    DTS_FIELD_TYPE = 1,           /* DTS_TYPE_.. */
+    DTS_FIELD_STATUS = 2,         /* DTS_STATUS_.. */
     DTS_FIELD_OLD_STATUS = 3,
     DTS_FIELD_FAULT_COUNT = 4,
     DTS_FIELD_ZONE = 5,           /* the byte: 208 to 255 are -48 to -1, 128 is unknown */
@@ -140,7 +318,8 @@ enum {
 
 /*
  * Starts a new reader: 2020-01-01, in time fault, all switches off, an empty log. What the buffers held does
- * not matter. Answers 0; then every byte of both is rewritten, the table zeroed but for N and the offset 16.
+ * not matter, and is gone: a reader that has a log is not started again (see POWER ON). Answers 0; then every
+ * byte of both is rewritten, the table zeroed but for N and the offset 16.
  * Refuses: 1 (the size is not DTS_TABLE_BYTES of 1 to 1,023), 2 (the state's length is not 32).
  */
 int32_t dts_start(uint8_t *state, size_t state_length, uint8_t *table, size_t table_length);
@@ -154,7 +333,7 @@ int32_t dts_seconds(uint8_t *state, size_t state_length, uint32_t n);
 /*
  * The client's three subscriptions: indications of the DTCP, indications of the RACP, notifications of the
  * log. 0 is off, any other value is on. A running report goes on whatever they are. Answers 0.
- * Refuses: 2.
+ * Refuses: 2. Then the switches are what they were, and the client's write gets an error response.
  */
 int32_t dts_switches(uint8_t *state, size_t state_length, uint8_t dtcp, uint8_t racp, uint8_t log);
 
@@ -218,7 +397,7 @@ int32_t dts_parameters(uint8_t *out, size_t out_length);
 
 /*
  * The ATT error for a refusal number, given as a positive number: 0x0D for 4, 0xFD for 5, 0xFE for 6. 0 for
- * any other number: those are not the client's fault, and the firmware answers as it sees fit.
+ * any other number: those are not the client's fault. Send DTS_ATT_UNLIKELY_ERROR then, never 0.
  */
 int32_t dts_att_error(uint32_t number);
 

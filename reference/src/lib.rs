@@ -21,6 +21,7 @@
 //! | `carry` | Carrying a stamp |
 //! | `listing` | the listing program's lines |
 //! | `report` | the lines of a whole report over the air |
+//! | `heard` | lines with what a tablet makes of a report, and of stamps |
 //! | `reader` | all calls as one trait, and the reference behind it |
 //! | `world` | the buffers a caller lends, together |
 //! | `vectors` | test vectors kept as data, and their player |
@@ -34,6 +35,7 @@ pub mod access;
 pub mod archive;
 pub mod carry;
 pub mod clock;
+pub mod heard;
 pub mod image;
 pub mod joining;
 pub mod keep;

@@ -7,18 +7,24 @@ use crate::numbers::PAPER;
 use crate::reader::Reader;
 use crate::table::{HEADER_BYTES, SLOT_BYTES};
 
-const ALL_RECORDS: [u8; 2] = [0x01, 0x01];
+/// All records, as a report and as a combined one.
+pub const ALL_RECORDS: [u8; 2] = [0x01, 0x01];
+pub const COMBINED: [u8; 2] = [0x07, 0x01];
 
-/// One notification a line in hexadecimal, at last `closes` and the closing response. Where
-/// nothing is held no report runs: `answers` and the response to the request. A refusal ends it.
-pub fn report(reader: &dyn Reader, table: &[u8], p: u32) -> String {
+/// One notification a line in hexadecimal, at last `closes` and the closing response. The sizes
+/// are those of the notifications in turn, the last one's of all that follow. Where nothing is
+/// held no report runs: `answers` and the response to the request. A refusal ends it.
+pub fn report(reader: &dyn Reader, table: &[u8], request: &[u8], sizes: &[u32]) -> String {
     let (mut state, mut out) = (started(reader), [0; PAPER.largest_payload as usize]);
-    let answer = reader.racp_write(&mut state, table, &ALL_RECORDS, &mut out);
+    let answer = reader.racp_write(&mut state, table, request, &mut out);
     if answer != 0 {
         return line("answers ", answer, &out);
     }
     let mut lines = String::new();
+    let mut asked = 0;
     loop {
+        let p = sizes[asked.min(sizes.len() - 1)];
+        asked += 1;
         let answer = reader.notify(&mut state, table, p, &mut out);
         if !(1..CLOSING).contains(&answer) {
             return lines + &line("closes ", answer % CLOSING, &out);

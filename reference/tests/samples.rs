@@ -1,46 +1,82 @@
 //! The samples that come with the repository, held against the reference.
 
+use reference::heard::{carried, joined};
 use reference::listing::listing;
 use reference::reader::Reference;
-use reference::report::report;
+use reference::report::{report, ALL_RECORDS, COMBINED};
 use std::fs;
 use std::path::{Path, PathBuf};
 
-const PAYLOADS: [u32; 2] = [20, 244];
+/// The sizes at which every sound table has its report; other reports are stored here and there.
+const PAYLOADS: [&str; 2] = ["p20", "p244"];
 
-/// The tables, each with its path.
-fn tables() -> Vec<(PathBuf, Vec<u8>)> {
+/// The files whose kind, what comes after the dot, is such a one; at least one of them.
+fn files(of: impl Fn(&str) -> bool) -> Vec<PathBuf> {
     let folder = Path::new(env!("CARGO_MANIFEST_DIR")).join("../samples");
-    let files = fs::read_dir(folder).unwrap().map(|file| file.unwrap().path());
-    let tables = files.filter(|path| path.extension().is_some_and(|kind| kind == "table"));
-    tables.map(|path| (path.clone(), fs::read(path).unwrap())).collect()
+    let all = fs::read_dir(folder).unwrap().map(|file| file.unwrap().path());
+    let files: Vec<PathBuf> = all.filter(|path| of(kind(path))).collect();
+    assert!(!files.is_empty());
+    files
+}
+
+fn kind(path: &Path) -> &str {
+    path.extension().and_then(|kind| kind.to_str()).unwrap_or("")
+}
+
+fn text(path: &Path) -> String {
+    fs::read_to_string(path).unwrap()
 }
 
 #[test]
 fn listings_are_the_references() {
-    let tables = tables();
-    assert!(!tables.is_empty());
-    for (path, table) in tables {
-        let stored = fs::read_to_string(path.with_extension("listing")).unwrap();
+    for path in files(|kind| kind == "table") {
+        let table = fs::read(&path).unwrap();
+        let stored = text(&path.with_extension("listing"));
         assert_eq!(listing(&Reference::new(), &table), stored, "{}", path.display());
+    }
+}
+
+/// Is it a report? p or c, and then the sizes.
+fn is_report(kind: &str) -> bool {
+    kind.starts_with(['p', 'c']) && kind[1..].starts_with(|digit: char| digit.is_ascii_digit())
+}
+
+#[test]
+fn reports_are_the_references() {
+    for path in files(is_report) {
+        let table = fs::read(path.with_extension("table")).unwrap();
+        let sizes = kind(&path)[1..].split('-').map(|size| size.parse().unwrap());
+        let request = if kind(&path).starts_with('c') { COMBINED } else { ALL_RECORDS };
+        let report = report(&Reference::new(), &table, &request, &sizes.collect::<Vec<u32>>());
+        assert_eq!(report, text(&path), "{}", path.display());
     }
 }
 
 /// A sound table has its report at each payload; an unsound one is refused and has none.
 #[test]
-fn reports_are_the_references() {
-    let mut compared = 0;
-    for (path, table) in tables() {
-        for p in PAYLOADS {
-            let report = report(&Reference::new(), &table, p);
-            let file = path.with_extension(format!("p{p}"));
-            if report == "refused 1\n" {
-                assert!(!file.exists(), "{}", file.display());
-            } else {
-                assert_eq!(report, fs::read_to_string(&file).unwrap(), "{}", file.display());
-                compared += 1;
-            }
+fn sound_tables_have_reports() {
+    for path in files(|kind| kind == "table") {
+        let table = fs::read(&path).unwrap();
+        let sound = listing(&Reference::new(), &table) != "refused 1\n";
+        for payload in PAYLOADS {
+            assert_eq!(path.with_extension(payload).exists(), sound, "{}", path.display());
         }
     }
-    assert!(compared > 0);
+}
+
+#[test]
+fn joined_reports_are_the_references() {
+    for path in files(|kind| kind == "joined") {
+        let stored = text(&path);
+        assert_eq!(joined(&Reference::new(), &stored), stored, "{}", path.display());
+    }
+}
+
+#[test]
+fn carried_stamps_are_the_references() {
+    for path in files(|kind| kind == "carried") {
+        let table = fs::read(path.with_extension("table")).unwrap();
+        let stored = text(&path);
+        assert_eq!(carried(&Reference::new(), &table, &stored), stored, "{}", path.display());
+    }
 }

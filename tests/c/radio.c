@@ -97,13 +97,18 @@ static void expect_written(unsigned handle, const char *value)
     expect("the response to a write", pdu.bytes[0], ATT_WRITE_RESPONSE);
 }
 
-static void expect_error(unsigned handle, const char *value, int error)
+static void expect_error_to(uint8_t request, unsigned handle, const char *value, int error)
 {
-    struct pdu pdu = asked(ATT_WRITE_REQUEST, handle, value);
-    expect("the response to a write", pdu.bytes[0], ATT_ERROR_RESPONSE);
-    expect("the request of the error", pdu.bytes[1], ATT_WRITE_REQUEST);
+    struct pdu pdu = asked(request, handle, value);
+    expect("the response to a request", pdu.bytes[0], ATT_ERROR_RESPONSE);
+    expect("the request of the error", pdu.bytes[1], request);
     expect("the handle of the error", pdu.bytes[2], handle);
     expect("the ATT error", pdu.bytes[4], error);
+}
+
+static void expect_error(unsigned handle, const char *value, int error)
+{
+    expect_error_to(ATT_WRITE_REQUEST, handle, value, error);
 }
 
 static void expect_read(unsigned handle, const char *value)
@@ -272,7 +277,7 @@ static const char *const two_records_whole[] = {
 static void a_new_reader(void)
 {
     printf("- a new reader\n");
-    expect("start", reader_power_on(), 0);
+    expect("power on", reader_power_on(0), 0);
     expect_read(HANDLE_FEATURE, "ffff0204");
     expect_read(HANDLE_PARAMETERS, "ffff0000");
     expect_read(HANDLE_DEVICE_TIME, "809d9e25" "80" "ff" "1900" "0000");
@@ -414,6 +419,65 @@ static void the_tablet_goes(void)
     expect_response(HANDLE_RACP, "0401", "05000400");
 }
 
+static void power_comes_back(uint32_t seconds_since, int32_t expected)
+{
+    int32_t answer = reader_power_on(seconds_since);
+    printf("clock   power on after %u seconds: answer %d\n", (unsigned)seconds_since, (int)answer);
+    expect("power on", answer, expected);
+    expect_quiet();
+}
+
+/* Clock and log are kept, the report and the client's subscriptions are not. */
+static void the_power_goes(void)
+{
+    printf("- the power goes in the middle of a report\n");
+    expect_written(HANDLE_RACP, "0101");
+    power_comes_back(25, 0);
+    expect_error(HANDLE_RACP, "0401", DTS_ATT_CCC_IMPROPERLY_CONFIGURED);
+    expect_read(HANDLE_DEVICE_TIME, "1908af2f" "80" "00" "1200" "0800");
+    subscribe();
+    expect_response(HANDLE_RACP, "0401", "05000400");
+    expect("trouble", reader_trouble(), 0);
+}
+
+/* A switch that the library did not take is not taken over; the log outlives its clock and shows the loss. */
+static void the_state_is_damaged(void)
+{
+    static const char *const the_fault[] = {
+        "01" "080000000000" "1900" "1900" "0000" "809d9e25" "809d9e", "06" "25", NULL,
+    };
+    printf("- the state is damaged\n");
+    reader_kept.state[DTS_STATE_BYTES - 1] ^= 1;
+    expect_error(HANDLE_LOG_CCC, "0000", DTS_ATT_UNLIKELY_ERROR);
+    expect("trouble", reader_trouble(), -DTS_REFUSED_STATE);
+    reader_kept.state[DTS_STATE_BYTES - 1] ^= 1;
+    expect_written(HANDLE_DTCP_CCC, "0200");
+    expect_response(HANDLE_RACP, "0401", "05000400");
+    reader_kept.state[DTS_STATE_BYTES - 1] ^= 1;
+    power_comes_back(25, 0);
+    expect_read(HANDLE_DEVICE_TIME, "809d9e25" "80" "ff" "1900" "0900");
+    subscribe();
+    fetch(9, "0106", the_fault, "06000101");
+    expect_carried(800000025, 8, DTS_REFUSED_FAULT, 0);
+}
+
+/* The report cannot go on, nothing is erased, and every request that needs the log is answered with an error. */
+static void the_log_is_damaged(void)
+{
+    printf("- the log is damaged in the middle of a report\n");
+    expect_written(HANDLE_RACP, "0101");
+    reader_kept.table[DTS_HEADER_BYTES - 1] ^= 1;
+    expect_quiet();
+    expect("trouble", reader_trouble(), -DTS_REFUSED_TABLE);
+    expect_error(HANDLE_DTCP, "0343000008af2f04000201", DTS_ATT_UNLIKELY_ERROR);
+    expect_error_to(ATT_READ_REQUEST, HANDLE_DEVICE_TIME, "", DTS_ATT_UNLIKELY_ERROR);
+    power_comes_back(25, -DTS_REFUSED_TABLE);
+    printf("fitter  mends the log\n");
+    reader_kept.table[DTS_HEADER_BYTES - 1] ^= 1;
+    power_comes_back(25, 0);
+    expect_read(HANDLE_DEVICE_TIME, "999d9e25" "80" "ff" "1900" "0900");
+}
+
 int main(void)
 {
     a_new_reader();
@@ -425,6 +489,9 @@ int main(void)
     the_ends_of_the_ranges();
     a_log_in_use();
     the_tablet_goes();
+    the_power_goes();
+    the_state_is_damaged();
+    the_log_is_damaged();
     printf("%d differences\n", differences);
     return differences != 0;
 }

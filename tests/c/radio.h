@@ -5,8 +5,7 @@
 #ifndef RADIO_H
 #define RADIO_H
 
-#include <stddef.h>
-#include <stdint.h>
+#include "whiskraven.h"
 
 enum {
     ATT_ERROR_RESPONSE = 0x01,
@@ -26,8 +25,7 @@ enum {
     ATT_READ_NOT_PERMITTED = 0x02,
     ATT_WRITE_NOT_PERMITTED = 0x03,
     ATT_REQUEST_NOT_SUPPORTED = 0x06,
-    ATT_INVALID_ATTRIBUTE_LENGTH = 0x0D,
-    ATT_UNLIKELY_ERROR = 0x0E
+    ATT_INVALID_ATTRIBUTE_LENGTH = 0x0D
 };
 
 /* The handles of the service's values, and of the three descriptors that switch indications and notifications. */
@@ -53,11 +51,23 @@ struct pdu {
     size_t length;
 };
 
+/* The reader's memory that outlives power-off; the tablet's program spoils it where a test needs that. */
+enum { READER_SLOTS = 4 };
+struct kept {
+    uint8_t started;
+    uint8_t state[DTS_STATE_BYTES];
+    uint8_t table[DTS_TABLE_BYTES(READER_SLOTS)];
+};
+extern struct kept reader_kept;
+
 /* The reader's own events; each answers what the library answered. */
-int32_t reader_power_on(void);
+int32_t reader_power_on(uint32_t seconds_since);
 int32_t reader_seconds(uint32_t n);
 int32_t reader_fault(void);
 int32_t reader_disconnect(void);
+
+/* The last refusal since power-on that is no fault of the client's, below 0; 0 if there was none. */
+int32_t reader_trouble(void);
 
 /* A unit has come from the tablet. */
 void reader_receive(const struct pdu *pdu);

@@ -1,8 +1,9 @@
 /*
- * Prints a whole report of a log table as it goes over the air: report P < TABLE. The request is 01 01, all
- * records. One notification a line in hexadecimal; at last `closes` and the closing response. Where nothing
- * is held, the request itself is answered and no report runs: one line, `answers` and the response. A call
- * that is refused ends the report: `refused` and its number.
+ * Prints a whole report of a log table as it goes over the air: report REQUEST P.. < TABLE. The request is in
+ * hexadecimal, such as 0101 for all records. The sizes are those of the notifications in turn, the last one's
+ * of all that follow. One notification a line in hexadecimal; at last `closes` and the closing response. Where
+ * nothing is held, the request itself is answered and no report runs: one line, `answers` and the response. A
+ * call that is refused ends the report: `refused` and its number.
  */
 #include "check.h"
 #include "whiskraven.h"
@@ -34,10 +35,12 @@ static void start(void)
     expect("switches", dts_switches(state, sizeof state, 1, 1, 1), 0);
 }
 
-static int report(size_t length, uint32_t p)
+/* `sizes` ends with NULL and has at least one. */
+static int report(size_t length, const char *request, char **sizes)
 {
-    const uint8_t all[] = {0x01, 0x01};
-    int32_t answer = dts_racp_write(state, sizeof state, table, length, all, sizeof all, out, sizeof out);
+    uint8_t write[DTS_LONGEST_WRITE];
+    size_t written = from_hex(request, write);
+    int32_t answer = dts_racp_write(state, sizeof state, table, length, write, written, out, sizeof out);
     if (answer < 0)
         return refused(answer);
     if (answer > 0) {
@@ -45,6 +48,9 @@ static int report(size_t length, uint32_t p)
         return 0;
     }
     for (;;) {
+        uint32_t p = (uint32_t)strtoul(*sizes, NULL, 10);
+        if (sizes[1] != NULL)
+            sizes++;
         answer = dts_notify(state, sizeof state, table, length, p, out, sizeof out);
         if (answer <= 0)
             return refused(answer);
@@ -58,12 +64,12 @@ static int report(size_t length, uint32_t p)
 
 int main(int count, char **arguments)
 {
-    if (count != 2) {
-        fprintf(stderr, "usage: report P < TABLE\n");
+    if (count < 3 || strlen(arguments[1]) > 2 * DTS_LONGEST_WRITE) {
+        fprintf(stderr, "usage: report REQUEST P.. < TABLE\n");
         return 2;
     }
     start();
     size_t length = fread(table, 1, sizeof table, stdin);
-    int ended = report(length, (uint32_t)strtoul(arguments[1], NULL, 10));
+    int ended = report(length, arguments[1], arguments + 2);
     return ended || differences != 0;
 }

@@ -1,0 +1,67 @@
+//! What a tablet makes of a report as it is heard, and of stamps: lines of text with a reader's
+//! answers, made with nothing but its public calls, so that those of any reader can be compared
+//! with the samples. Of each line only what comes before its answer is looked at.
+
+use crate::joining::JOINING_BYTES;
+use crate::reader::Reader;
+
+/// Where the record's bytes begin in the joining state.
+const RECORD_AT: usize = 3;
+
+/// A notification a line in hexadecimal, `-` for one of no bytes, each with what joining and
+/// reading answer; a line `closes` with the count of the records.
+pub fn joined(reader: &dyn Reader, heard: &str) -> String {
+    let (mut joining, mut lines, mut count) = ([0; JOINING_BYTES], String::new(), 0);
+    for line in heard.lines() {
+        let mut words = line.split(' ');
+        let first = words.next().unwrap_or("");
+        if first == "closes" {
+            let response = words.next().unwrap_or("");
+            lines += &format!("closes {response} joined {count}\n");
+            continue;
+        }
+        let answer = match reader.join(&mut joining, &bytes_of(first)) {
+            0 => "more".to_string(),
+            length if length > 0 => read(reader, &joining[RECORD_AT..][..length as usize]),
+            refusal => refused(refusal),
+        };
+        count += u32::from(answer.starts_with("record"));
+        lines += &format!("{first} {answer}\n");
+    }
+    lines
+}
+
+/// A stamp and its number a line, each with what carrying it over the table answers.
+pub fn carried(reader: &dyn Reader, table: &[u8], stamps: &str) -> String {
+    let mut lines = String::new();
+    for line in stamps.lines() {
+        let numbers: Vec<u32> = line.split(' ').take(2).map(|word| word.parse().unwrap()).collect();
+        let (stamp, q, mut result) = (numbers[0], numbers[1] as u16, 0);
+        let answer = match reader.carry(stamp, q, table, &mut result) {
+            0 => result.to_string(),
+            refusal => refused(refusal),
+        };
+        lines += &format!("{stamp} {q} {answer}\n");
+    }
+    lines
+}
+
+fn read(reader: &dyn Reader, record: &[u8]) -> String {
+    let mut fields = [0; 11];
+    match reader.read(record, &mut fields) {
+        0 => {
+            let [sequence, kind, .., base, old_base] = fields;
+            format!("record {sequence} {kind} {base} {old_base}")
+        }
+        refusal => refused(refusal),
+    }
+}
+
+fn refused(answer: i32) -> String {
+    format!("refused {}", -answer)
+}
+
+fn bytes_of(hex: &str) -> Vec<u8> {
+    let digits: Vec<u32> = hex.chars().filter_map(|digit| digit.to_digit(16)).collect();
+    digits.chunks_exact(2).map(|pair| (pair[0] * 16 + pair[1]) as u8).collect()
+}
