@@ -66,6 +66,10 @@ module _ (line : Line) (n : ℕ) (e : n ≡ length (textOf line)) where
   unfolding textOf
   text-fits = rw e (simp length-take (omega arith))
 
+pub text-short : (line : Line) → length (line .bytes) ≡ 96 → length (textOf line) ≤ 96
+unfolding textOf
+text-short line size = simp length-take (omega arith)
+
 -- a text laid over bytes: these up to its end
 pub put-on : (t x : List ℕ) (p n : ℕ) → p ≤ length t → n ≡ length x → take (p + n) (over t p x) ≡ take p t ++ x
 unfolding over
