@@ -1,47 +1,18 @@
--- A page that a line more is put on, and the lines of the tags one after the other.
+-- The lines of the tags, put on a page one after the other.
 -- Assumes nothing.
 use mathlib.Core.Path.{_≡_, refl, sym, ap, _∙_}
 use mathlib.Core.List.{List, [], _∷_, _++_, append-assoc, append-nil}
 use Prim.Native.Nat.{ℕ, zero, suc, _+_, _≤_, _<_}
 use native.Mathlib.Numerals.{add-one}
 use native.Mathlib.Omega.{arith}
-use lib.ListN.{length, take, drop, getD, length-take, drop-of-length-le}
-use lib.Seq.{drop-cons, take-append-add, take-at, length-take-le}
-use Rattle.octets.specs.Parts.{over}
-use Rattle.text.specs.Line.{textOf}
-use Rattle.text.specs.declared.line.Line.{Line}
+use lib.ListN.{length, drop, getD, drop-of-length-le}
+use lib.Seq.{drop-cons}
 use Rattle.day_sheet.specs.Sheet.{tagLine, titleLine}
 use Rattle.day_sheet.specs.declared.sheet.Sight.{Sight}
 use Rattle.day_evening.specs.Fetch.{fetchedOf, sightOf}
 use Rattle.day_play.specs.declared.play.Ramp.{Ramp}
 use Rattle.day_play.specs.declared.reader.Note.{Note}
 use Rattle.loading_day.specs.Page.{linesOf, eveningOf}
-
--- as many bytes as a part has are that part
-part-again : (m : ℕ) (l : List ℕ) → take (length (take m l)) l ≡ take m l
-part-again zero l = refl
-part-again (suc m) [] = refl
-part-again (suc m) (x ∷ l) = ap (λ (r : List ℕ). x ∷ r) (part-again m l)
-
--- a line's text in its bytes
-module _ (line : Line) (n : ℕ) (e : n ≡ length (textOf line)) where
-  pub text-part : take n (line .bytes) ≡ textOf line
-  unfolding textOf
-  text-part = ap (λ (m : ℕ). take m (line .bytes)) e ∙ part-again (line .len) (line .bytes)
-
-  pub text-fits : n ≤ length (line .bytes)
-  unfolding textOf
-  text-fits = rw e (simp length-take (omega arith))
-
--- bytes laid over a page from its end on
-pub put-on : (t x : List ℕ) (p n : ℕ) → p ≤ length t → n ≡ length x → take (p + n) (over t p x) ≡ take p t ++ x
-unfolding over
-put-on t x p n h e =
-    let a = take p t in
-    let d = drop (p + length x) t in
-    ap (λ (m : ℕ). take (m + n) (a ++ (x ++ d))) (sym (length-take-le p t h))
-    ∙ take-append-add a (x ++ d) n
-    ∙ ap (λ (r : List ℕ). a ++ r) (take-at x d n (sym e))
 
 -- the lines from a place on
 abbrev pub rest : List ℕ → List Note → List Note → (left right : List ℕ) → ℕ → List ℕ

@@ -19,9 +19,15 @@ fn today() -> Page
     sheet(day(), tags())
 }
 
+// A page that could not be written is said on standard error, which makes the status 1 where it is run (.ci/program).
 fn main() {
     let page = today();
     let bytes = page.bytes;
     let len = page.len;
-    io::write_all(libc::STDOUT_FILENO, &bytes[..len]);
+    if !io::write_all(libc::STDOUT_FILENO, &bytes[..len]) {
+        io::write_all(
+            libc::STDERR_FILENO,
+            b"loading_day: the sheet could not be written\n",
+        );
+    }
 }

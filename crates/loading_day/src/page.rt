@@ -7,12 +7,11 @@ use day_play::play::played;
 use day_play::reader::Note;
 use day_sheet::sheet::tag_line;
 use day_sheet::sheet::title_line;
-use octets::parts::put;
 use text::line::Line;
+use text::line::put_line;
 ghost use mathlib.Core.Path.{_≡_};
 ghost use mathlib.Core.List.{[], _++_};
 ghost use Prim.Native.Nat.{_+_, _≤_};
-ghost use lib.ListN.{length};
 ghost use Rattle.text.specs.Line.{textOf};
 ghost use Rattle.day_sheet.specs.Sheet.{titleLine};
 ghost use Rattle.loading_day.specs.Page.{pageText, linesOf, eveningOf, sheetOf};
@@ -32,24 +31,14 @@ fn blank() -> Page
     }
 }
 
-// How many bytes of a line count.
-fn size(line: Line) -> usize
-    ensures { λ n. ⌜ n ≡ length (textOf line) ⌝ }
-{
-    let len = line.len;
-    if len < 96 { len } else { 96 }
-}
-
 fn with_line(page: Page, line: Line) -> Page
     requires { ⌜ page .len + 96 ≤ 864 ⌝ }
     ensures { λ p. ⌜ (pageText p ≡ pageText page ++ textOf line) × (p .len ≤ page .len + 96) ⌝ }
 {
     let at = page.len;
     let mut bytes = page.bytes;
-    let text = line.bytes;
-    let n = size(line);
-    put(&mut bytes, at, &text[..n]);
-    Page { bytes, len: at + n }
+    let len = put_line(&mut bytes, at, line);
+    Page { bytes, len }
 }
 
 // The title and the lines, from the notes of both readers and their tables as the tablet fetched them.

@@ -1,7 +1,11 @@
 // A line of text, and what is put at its end: a byte, a number, a word. A line holds 96 bytes, and what does not fit is
 // dropped without a sign: a caller whose texts are short shows by `fitted-short` that nothing was.
+use octets::parts::put;
 ghost use mathlib.Core.Path.{_≡_};
 ghost use mathlib.Core.List.{[], _∷_, _++_};
+ghost use Prim.Native.Nat.{_+_, _≤_};
+ghost use lib.ListN.{length};
+ghost use Rattle.octets.specs.Parts.{over};
 ghost use Rattle.text.specs.Line.{textOf, fitted, decimal};
 
 // A line of text that is built up by value: its first `len` bytes count.
@@ -56,4 +60,23 @@ pub fn with_word(line: Line, word: &[u8]) -> Line
         i += 1;
     }
     longer
+}
+
+// How many bytes of a line count.
+fn size(line: Line) -> usize
+    ensures { λ n. ⌜ n ≡ length (textOf line) ⌝ }
+{
+    let len = line.len;
+    if len < 96 { len } else { 96 }
+}
+
+// The line's text is laid over `out` from `at` on. Answers where it ends.
+pub fn put_line(out: &mut [u8], at: usize, line: Line) -> usize
+    requires { ⌜ at + length (textOf line) ≤ length (now out) ⌝ }
+    ensures { λ end. ⌜ (end ≡ at + length (textOf line)) × (now (out .exit) ≡ over (now (out .entry)) at (textOf line)) ⌝ }
+{
+    let bytes = line.bytes;
+    let n = size(line);
+    put(out, at, &bytes[..n]);
+    at + n
 }

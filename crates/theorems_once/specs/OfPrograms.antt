@@ -1,6 +1,6 @@
 -- One outcome of each call of the programs' own crates. What is promised of a line is its text: the bytes past its `len` are left open,
 -- so it is the text that is one.
-use Rattle.theorems_once.specs.Only.{Door, DoorPart}
+use Rattle.theorems_once.specs.Only.{Only, OnlyPart, Door, DoorPart}
 use Rattle.text.specs.Line.{textOf}
 use Rattle.text.proofs.line.empty.Kinds as empty-kinds
 use Rattle.text.proofs.line.empty.Reads as empty-reads
@@ -10,6 +10,16 @@ use Rattle.text.proofs.line.with_number.Kinds as with-number-kinds
 use Rattle.text.proofs.line.with_number.Reads as with-number-reads
 use Rattle.text.proofs.line.with_word.Kinds as with-word-kinds
 use Rattle.text.proofs.line.with_word.Reads as with-word-reads
+use Rattle.text.proofs.line.put_line.Kinds as put-line-kinds
+use Rattle.text.proofs.line.put_line.Reads as put-line-reads
+use Rattle.list_text.proofs.lines.refused_line.Kinds as refused-line-kinds
+use Rattle.list_text.proofs.lines.refused_line.Reads as refused-line-reads
+use Rattle.list_text.proofs.lines.head_line.Kinds as head-line-kinds
+use Rattle.list_text.proofs.lines.head_line.Reads as head-line-reads
+use Rattle.list_text.proofs.lines.record_line.Kinds as record-line-kinds
+use Rattle.list_text.proofs.lines.record_line.Reads as record-line-reads
+use Rattle.list_text.proofs.listing.listing.Kinds as listing-kinds
+use Rattle.list_text.proofs.listing.listing.Reads as listing-reads
 use Rattle.day_sheet.proofs.sheet.tag_line.Kinds as tag-line-kinds
 use Rattle.day_sheet.proofs.sheet.tag_line.Reads as tag-line-reads
 use Rattle.day_sheet.proofs.sheet.title_line.Kinds as title-line-kinds
@@ -30,6 +40,11 @@ pub record OneOutcome : Type 0 where
   pub with-byte : DoorPart with-byte-kinds.ps with-byte-kinds.r (λ κs. textOf) with-byte-reads.Pre with-byte-reads.Post
   pub with-number : DoorPart with-number-kinds.ps with-number-kinds.r (λ κs. textOf) with-number-reads.Pre with-number-reads.Post
   pub with-word : DoorPart with-word-kinds.ps with-word-kinds.r (λ κs. textOf) with-word-reads.Pre with-word-reads.Post
+  pub put-line : Only put-line-kinds.ps put-line-kinds.r put-line-reads.Pre put-line-reads.Post
+  pub refused-line : DoorPart refused-line-kinds.ps refused-line-kinds.r (λ κs. textOf) refused-line-reads.Pre refused-line-reads.Post
+  pub head-line : OnlyPart head-line-kinds.ps head-line-kinds.r (λ κs. textOf) head-line-reads.Pre head-line-reads.Post
+  pub record-line : DoorPart record-line-kinds.ps record-line-kinds.r (λ κs. textOf) record-line-reads.Pre record-line-reads.Post
+  pub listing : Door listing-kinds.ps listing-kinds.r listing-reads.Pre listing-reads.Post
   pub tag-line : DoorPart tag-line-kinds.ps tag-line-kinds.r (λ κs. textOf) tag-line-reads.Pre tag-line-reads.Post
   pub title-line : DoorPart title-line-kinds.ps title-line-kinds.r (λ κs. textOf) title-line-reads.Pre title-line-reads.Post
   pub started : Door started-kinds.ps started-kinds.r started-reads.Pre started-reads.Post

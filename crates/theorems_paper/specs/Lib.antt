@@ -1,3 +1,4 @@
 pub mod Reader
 pub mod Twelve
 pub mod Wrong
+pub mod Listing

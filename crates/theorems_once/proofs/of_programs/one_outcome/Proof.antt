@@ -1,6 +1,9 @@
--- Two outcomes that meet one equation are one.
+-- Two outcomes that meet one equation are one: those by value by that alone, those of lent buffers by the parts of the whole (`split`).
 -- Assumes nothing.
-use mathlib.Core.Path.{refl, sym, _∙_}
+use mathlib.Core.Path.{refl, sym, ap, _∙_}
+use mathlib.Core.List.{List}
+use Prim.Native.Nat.{ℕ}
+use Rattle.theorems_once.proofs.Whole.{split}
 use Rattle.theorems_once.proofs.of_programs.one_outcome.Statement.{statement}
 use Rattle.theorems_once.proofs.of_programs.one_outcome.Tie as tie
 
@@ -11,6 +14,11 @@ returns c =
       with-byte = (λ κs a. tt, λ κs a x y u v h p q. (p ∙ sym q, refl));
       with-number = (λ κs a. tt, λ κs a x y u v h p q. (p ∙ sym q, refl));
       with-word = (λ κs a. tt, λ κs a x y u v h p q. (p ∙ sym q, refl));
+      put-line = λ κs a x y u v h p q. (p .0 ∙ sym (q .0), ap (λ (b : List ℕ). (b, (tt, (tt, tt)))) (p .1 ∙ sym (q .1)));
+      refused-line = (λ κs a. tt, λ κs a x y u v h p q. (p ∙ sym q, refl));
+      head-line = λ κs a x y u v h p q. (p ∙ sym q, refl);
+      record-line = (λ κs a. tt, λ κs a x y u v h p q. (p .0 ∙ sym (q .0), refl));
+      listing = (λ κs a. tt, λ κs a x y u v h p q. split p q (λ w. w .end) (λ w. (tt, (w .buffer, tt))));
       tag-line = (λ κs a. tt, λ κs a x y u v h p q. (p ∙ sym q, refl));
       title-line = (λ κs a. tt, λ κs a x y u v h p q. (p ∙ sym q, refl));
       started = (λ κs a. tt, λ κs a x y u v h p q. (p ∙ sym q, refl));
