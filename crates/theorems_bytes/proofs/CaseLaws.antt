@@ -9,7 +9,7 @@ use Rattle.octets.specs.Parts.{Bytes}
 use Rattle.theorems_stamps.proofs.WriteLaws.{writable}
 use Rattle.theorems_bytes.specs.Cases.{seenOf, heardOf, runningAfter, Computed}
 
-two-bytes : (x : ℕ) → x < 256 → Bytes (x ∷ 1 ∷ [])
+pub two-bytes : (x : ℕ) → x < 256 → Bytes (x ∷ 1 ∷ [])
 two-bytes x h = record { byte = go }
   where
     go : (i : ℕ) → at (x ∷ 1 ∷ []) i < 256

@@ -1,3 +1,4 @@
 pub mod Copies
 pub mod CopiesAt
 pub mod Cases
+pub mod CasesAt

@@ -2,6 +2,7 @@
 ghost use Rattle.theorems_copies.specs.Copies.{FetchedCopy, CarriedOverCopy};
 ghost use Rattle.theorems_copies.specs.CopiesAt.{FetchedCopyAt, CarriedOverCopyAt};
 ghost use Rattle.theorems_copies.specs.Cases.{Computed};
+ghost use Rattle.theorems_copies.specs.CasesAt.{ComputedAt};
 
 // A finished report of all records, joined and kept in a new table, makes a copy of the reader's log.
 pub fn fetched_copy()
@@ -26,4 +27,9 @@ pub fn carried_over_copy_at()
 // A log that has rolled, fetched into copies of five slots and of two, and stamps carried over them.
 pub fn computed()
     ensures { λ _. ⌜ Computed ⌝ }
+{}
+
+// The same over bytes, from `dts_start` to `dts_carry`.
+pub fn computed_at()
+    ensures { λ _. ⌜ ComputedAt ⌝ }
 {}
