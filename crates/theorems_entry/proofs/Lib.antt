@@ -1,2 +1,3 @@
 pub mod PromiseLaws
 pub mod NoImageLaws
+pub mod LengthLaws
