@@ -1,2 +1,5 @@
 pub mod PromiseLaws
 pub mod NoImageLaws
+pub mod ReplyLengths
+pub mod NoticeLengths
+pub mod LengthLaws

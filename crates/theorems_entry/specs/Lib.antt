@@ -1,2 +1,3 @@
 pub mod Theorems
 pub mod Cases
+pub mod Lengths

@@ -7,3 +7,4 @@ pub mod OfTablet
 pub mod OfBoundary
 pub mod OfPrograms
 pub mod Weaker
+pub mod OfEntries

@@ -40,3 +40,13 @@ module _ {n : ℕ} (ps : List (PK n)) (r : RK n) where
 
   abbrev pub Door : In n ps → Out n ps r → Type 0
   Door = DoorPart (λ κs x. x)
+
+  -- An outcome that meets the promise: a result, and what is last held.
+  pub record Outcome (Post : Out n ps r) (κs : Lfts n) (a : Dens κs ps) : Type 0 where
+    pub result : resT r κs .Denot
+    pub lasts : Lasts (endedOf n ps r) κs a
+    pub meets : Post κs a result (atExit (endedOf n ps r) κs a lasts)
+
+  -- whatever is lent, there is one
+  abbrev pub Some : Out n ps r → Type 0
+  Some Post = (κs : Lfts n) (a : Dens κs ps) → Outcome Post κs a
