@@ -35,6 +35,9 @@ use Rattle.joining.specs.declared.joining.Joined.{Joined}
 use Rattle.joining.specs.declared.joining.Joining.{Joining}
 use Rattle.joining.proofs.JoiningLaws.{Joins, refuses, goes-on, join-is}
 use Rattle.joining.proofs.JoiningLaws as joins
+use Rattle.keep.specs.Keep.{keepOf, keepingNumber}
+use Rattle.keep.specs.declared.keep.Kept.{Kept}
+use Rattle.keep.specs.declared.keep.Kept.the-variants as kepts
 use Rattle.carry.specs.Stamp.{carryOf}
 use Rattle.carry.specs.Stamp as carry
 use Rattle.carry.specs.declared.stamp.Carried.{Carried}
@@ -48,12 +51,12 @@ use Rattle.server_bytes.specs.Start.{startedBytes, shortOf, begunAt, startAt}
 use Rattle.server_bytes.specs.Events.{secondsAt, switchesAt, disconnectAt}
 use Rattle.server_bytes.specs.Calls.{faultAt, dtcpAt, racpAt, notifyAt}
 use Rattle.server_bytes.specs.ValuesRead.{deviceTimeAt, featureAt, parametersAt}
-use Rattle.tablet_bytes.specs.Calls.{joinResult, joinedBytes, joined, joinAt, readAt, carryAt}
+use Rattle.tablet_bytes.specs.Calls.{joinResult, joinedBytes, joined, joinAt, readAt, keepAt, carryAt}
 use Rattle.theorems_entry.specs.Lengths.{Lengths, Written}
 use Rattle.theorems_entry.proofs.ReplyLengths.{pos-is, done-length, replied-wrote, fault-replied, ending-length, update-replied, response-length, access-replied, request-four, four-length, four-none, time-replied, time-length, told-wrote}
 use Rattle.theorems_entry.proofs.NoticeLengths.{notify-length, segment-written, closed-written}
 
--- starting, joining, reading, carrying
+-- starting, joining, reading, keeping, carrying
 start-length : (s t : List ℕ) (n : ℕ) → startAt s t .result ≡ pos n → n ≡ 0
 unfolding startAt shortOf
 start-length s t n = go (eqb (length s) 32) (sizeB (length t))
@@ -79,6 +82,13 @@ join-length j b n = go (eqb (length j) joiningBytes)
 read-length : (r : Reading) (n : ℕ) → refusal (wellFormed.readingNumber r) ≡ pos n → n ≡ 0
 read-length (Is r) n h = pos-is 0 n h
 read-length readings.Refused n h = absurd (pos-ne-negsuc n _ (sym h))
+
+keep-length : (k : Kept) (n : ℕ) → refusal (keepingNumber k) ≡ pos n → n ≡ 0
+unfolding keepingNumber
+keep-length kepts.Done n h = pos-is 0 n h
+keep-length kepts.TableNotSound n h = absurd (pos-ne-negsuc n _ (sym h))
+keep-length kepts.NotARecord n h = absurd (pos-ne-negsuc n _ (sym h))
+keep-length kepts.DoesNotFollow n h = absurd (pos-ne-negsuc n _ (sym h))
 
 carry-length : (r : Carried) (n : ℕ) → refusal (carry.carryingNumber r) ≡ pos n → n ≡ 0
 unfolding carry.carryingNumber
@@ -119,7 +129,7 @@ access-begun c t w o h =
     r .output ∙ ap (over o 0) (four-none (z .1 ∙ r .len) (request-four c t (opcodeIn w) (requestOf w))) ∙ over-none o
 
 pub lengths : Lengths
-unfolding secondsAt switchesAt disconnectAt faultAt dtcpAt racpAt notifyAt deviceTimeAt featureAt parametersAt readAt carryAt settledOf featureOf parametersOf
+unfolding secondsAt switchesAt disconnectAt faultAt dtcpAt racpAt notifyAt deviceTimeAt featureAt parametersAt readAt keepAt carryAt settledOf featureOf parametersOf
 lengths =
     record {
       start = start-length;
@@ -137,6 +147,7 @@ lengths =
       parameters = λ o n h. told-wrote parametersBytes o n (omega arith) h .0;
       join = join-length;
       read = λ b f n h. read-length (readOf b) n h;
+      keep = λ t b n h. keep-length (keepOf t b .answer) n h;
       carry = λ stamp q t z n h. carry-length (carryOf stamp q t) n h;
     }
 

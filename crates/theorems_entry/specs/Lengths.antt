@@ -17,7 +17,7 @@ use Rattle.server_bytes.specs.Start.{startAt}
 use Rattle.server_bytes.specs.Events.{secondsAt, switchesAt, disconnectAt}
 use Rattle.server_bytes.specs.Calls.{faultAt, dtcpAt, racpAt, notifyAt}
 use Rattle.server_bytes.specs.ValuesRead.{deviceTimeAt, featureAt, parametersAt}
-use Rattle.tablet_bytes.specs.Calls.{joinAt, readAt, carryAt}
+use Rattle.tablet_bytes.specs.Calls.{joinAt, readAt, keepAt, carryAt}
 
 -- DTS_CLOSING
 abbrev pub closing : ℕ
@@ -46,6 +46,7 @@ pub record Lengths : Type 0 where
   -- "0: more to come; 1 to 45"
   pub join : (j b : List ℕ) (n : ℕ) → joinAt j b .result ≡ pos n → n ≤ mostBytes
   pub read : (b f : List ℕ) (n : ℕ) → readAt b f .result ≡ pos n → n ≡ 0
+  pub keep : (t b : List ℕ) (n : ℕ) → keepAt t b .result ≡ pos n → n ≡ 0
   pub carry : (stamp q : ℕ) (t : List ℕ) (z : ℤ) (n : ℕ) → carryAt stamp q t z .result ≡ pos n → n ≡ 0
 
 -- n bytes were written to an output of the bytes o: it had room for them, and "bytes of `out` past those that the answer counts keep their

@@ -27,6 +27,8 @@ use Rattle.firmware.proofs.tablet_calls.dts_join.Kinds as join-kinds
 use Rattle.firmware.proofs.tablet_calls.dts_join.Reads as join-reads
 use Rattle.firmware.proofs.tablet_calls.dts_read.Kinds as read-kinds
 use Rattle.firmware.proofs.tablet_calls.dts_read.Reads as read-reads
+use Rattle.firmware.proofs.tablet_calls.dts_keep.Kinds as keep-kinds
+use Rattle.firmware.proofs.tablet_calls.dts_keep.Reads as keep-reads
 use Rattle.firmware.proofs.tablet_calls.dts_carry.Kinds as carry-kinds
 use Rattle.firmware.proofs.tablet_calls.dts_carry.Reads as carry-reads
 use Rattle.firmware.proofs.errors.dts_att_error.Kinds as att-error-kinds
@@ -46,5 +48,6 @@ pub record SomeOutcome : Type 0 where
   pub parameters : Some parameters-kinds.ps parameters-kinds.r parameters-reads.Post
   pub join : Some join-kinds.ps join-kinds.r join-reads.Post
   pub read : Some read-kinds.ps read-kinds.r read-reads.Post
+  pub keep : Some keep-kinds.ps keep-kinds.r keep-reads.Post
   pub carry : Some carry-kinds.ps carry-kinds.r carry-reads.Post
   pub att-error : Some att-error-kinds.ps att-error-kinds.r att-error-reads.Post

@@ -14,7 +14,7 @@ use Rattle.server_bytes.specs.Start.{startAt}
 use Rattle.server_bytes.specs.Events.{secondsAt, switchesAt, disconnectAt}
 use Rattle.server_bytes.specs.Calls.{Called, called, faultAt, dtcpAt, racpAt, notifyAt}
 use Rattle.server_bytes.specs.ValuesRead.{deviceTimeAt, featureAt, parametersAt}
-use Rattle.tablet_bytes.specs.Calls.{joinAt, readAt, carryAt}
+use Rattle.tablet_bytes.specs.Calls.{joinAt, readAt, keepAt, carryAt}
 use Rattle.firmware.specs.Errors.{attErrorAt}
 use Rattle.theorems_once.proofs.of_entries.some_outcome.Statement.{statement}
 use Rattle.theorems_once.proofs.of_entries.some_outcome.Tie as tie
@@ -79,6 +79,9 @@ returns c =
       read = λ κs a.
           let w = readAt (a .0 .now) (a .1 .0 .now) in
           record { result = w .result; lasts = (tt, (w .fields, tt)); meets = refl };
+      keep = λ κs a.
+          let w = keepAt (a .0 .now) (a .1 .0 .now) in
+          record { result = w .result; lasts = (w .table, (tt, tt)); meets = refl };
       carry = λ κs a.
           let w = carryAt (a .0) (a .1 .0) (a .1 .1 .0 .now) (a .1 .1 .1 .0 .now) in
           record { result = w .result; lasts = (tt, (tt, (tt, (w .carried, tt)))); meets = refl };
