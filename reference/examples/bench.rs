@@ -115,6 +115,7 @@ fn of_the_reference(name: &str) -> f64 {
             let heard = large.heard();
             measure(100, || large.joining(&heard))
         }
+        "dtcp_write_full" => measure(1_000, || large.update()),
         other => panic!("no measure named {other}"),
     }
 }

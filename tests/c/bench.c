@@ -1,5 +1,5 @@
 /*
- * Times five things on the proved code: one line each, a name and the nanoseconds that one took, the best of
+ * Times six things on the proved code: one line each, a name and the nanoseconds that one took, the best of
  * ROUNDS rounds. reference/examples/bench.rs does the same on the reference and divides. A time says something only
  * where the code runs without an emulator.
  */
@@ -40,6 +40,12 @@ static void soundness(void)
 static void dtcp_write(void)
 {
     update(small, sizeof small);
+}
+
+/* The same where the log is long: what a reader in its season has. */
+static void dtcp_write_full(void)
+{
+    update(large, sizeof large);
 }
 
 static void carrying(void)
@@ -125,5 +131,6 @@ int main(void)
     measure("report", report, 1);
     hear();
     measure("joining", joining, 100);
+    measure("dtcp_write_full", dtcp_write_full, 1000);
     return differences != 0;
 }
