@@ -6,15 +6,16 @@ use mathlib.Core.List.{List, [], _∷_}
 use Prim.Native.Nat.{ℕ, zero, suc, _-_, _≤_, _<_}
 use native.Mathlib.Nat.{not-suc-le-zero}
 use native.Mathlib.Omega.{arith}
-use borrow.Author.Tests.{leb-true}
+use borrow.Author.Tests.{leb-true, eq-eqb, ne-eqb}
 use lib.Dec.{leb}
 use lib.ListN.{length, take, replicate, length-take}
 use Rattle.octets.specs.Choice.{both, pick}
 use Rattle.octets.proofs.Tests.{both-reads}
-use Rattle.record.specs.declared.kinds.Record.{Record}
+use Rattle.record.specs.Fields.{mostBytes}
 use Rattle.record.specs.declared.kinds.Reading.{Reading}
+use Rattle.record.specs.declared.kinds.Reading.the-variants.{Refused}
+use Rattle.record_read.specs.Reading.{readOf}
 use Rattle.table.specs.Table.{soundB}
-use Rattle.table_write.specs.Append.{appendOf}
 use Rattle.clock.specs.declared.answers.Answer.{Answer}
 use Rattle.clock.specs.declared.state.Clock.{Clock}
 use Rattle.clock.specs.declared.state.Left.{Left}
@@ -30,15 +31,19 @@ use Rattle.racp_access.specs.Access.{accessOf}
 use Rattle.racp_notify.specs.Notify.{notice, roomB, notifyRows, segmentOf, saidOf, noticed, runningNotice, unsaid, notifyOf}
 use Rattle.racp_notify.proofs.SegmentLaws.{closing-length}
 use Rattle.racp_notify.specs.declared.notify.Notified.{Notified}
-use Rattle.joining.specs.Joining.{emptyJoining, joinOf}
+use Rattle.joining.specs.Joining.{emptyJoining, joinOf, joinedIn}
 use Rattle.joining.specs.Reading.{readJoinedOf}
+use Rattle.joining.proofs.ReadingLaws.{too-long}
 use Rattle.joining.specs.declared.joining.Answer.the-variants.{Whole}
 use Rattle.joining.specs.declared.joining.Joining.{Joining}
 use Rattle.joining.specs.declared.joining.Joined.{Joined}
+use Rattle.keep.specs.Keep.{keeping, readKept, keepOf, keepingNumber}
+use Rattle.keep.specs.declared.keep.Kept.{Kept}
+use Rattle.keep.specs.declared.keep.Kept.the-variants.{TableNotSound}
 use Rattle.carry.specs.Stamp.{carryOf}
 use Rattle.carry.specs.declared.stamp.Carried.{Carried}
 use Rattle.day_sheet.specs.declared.sheet.Sight.the-variants.{Missed, Seen}
-use Rattle.day_evening.specs.Fetch.{loggedIn, readIn, keptIn, fetch, askedOf, heardOf, heardAll, sightOf}
+use Rattle.day_evening.specs.Fetch.{noTable, unlessRefused, storedIn, keptIn, fetch, askedOf, heardOf, heardAll, sightOf}
 use Rattle.day_play.specs.Reader.{output}
 use Rattle.day_evening.specs.declared.fetch.Fetch.{Fetch}
 use Rattle.day_play.specs.declared.reader.Note.{Note}
@@ -66,14 +71,25 @@ module _ (c : Clock) (t : List ℕ) (p : ℕ) (o : List ℕ) where
       fits-by (doneB (firstFailed (notifyRows c t p o))) (firstFailed (notifyRows c t p o)) (c .running)
       (λ h. table-done c t (roomB p (length o)) _ h .0 .output)
 
-module _ (copy : List ℕ) (r : Record) where
-  pub logged-not : soundB copy ≡ false → copy ≡ loggedIn copy r
-  unfolding loggedIn
-  logged-not h = rw h
+module _ (copy : List ℕ) (j : Joining) where
+  refused-by : (b : Bool) (x : Reading) → x ≡ Refused → noTable ≡ unlessRefused (pick b (readKept copy x) (keeping TableNotSound copy))
+  unfolding keepingNumber
+  refused-by true x f = rw f
+  refused-by false x f = refl
 
-  pub logged-too : {t : List ℕ} → soundB copy ≡ true → t ≡ appendOf copy r → t ≡ loggedIn copy r
-  unfolding loggedIn
-  logged-too h e = rw h e
+  -- more than 45 bytes are no record, and keeping refuses
+  pub stored-too-long : length (j .bytes) ≡ mostBytes → mostBytes < j .len → noTable ≡ storedIn copy j
+  unfolding storedIn keepOf readJoinedOf
+  stored-too-long e h = refused-by (soundB copy) (readOf (joinedIn j)) (too-long j e h)
+
+  module _ (k : Kept) (t : List ℕ) (e : keeping k t ≡ keepOf copy (joinedIn j)) where
+    pub stored-not : 0 < keepingNumber k → noTable ≡ storedIn copy j
+    unfolding storedIn
+    stored-not h = rw (← e, ne-eqb (keepingNumber k) 0 (omega arith))
+
+    pub stored-too : keepingNumber k ≤ 0 → t ≡ storedIn copy j
+    unfolding storedIn
+    stored-too h = rw (← e, eq-eqb (keepingNumber k) 0 (omega arith))
 
 module _ (n : Note) (t : List ℕ) where
   pub missed : n .seen ≡ false → Missed ≡ sightOf n t
@@ -103,10 +119,9 @@ pub asked-is : (c : Clock) (t : List ℕ) {x : Clock} {j : Joining} {b : List �
 unfolding askedOf
 asked-is c t e f g = rw (e, f, g)
 
-pub kept-whole : (copy : List ℕ) (j : Joined) {x : Reading} {t : List ℕ} → j .answer ≡ Whole → x ≡ readJoinedOf (j .joining)
-    → t ≡ readIn copy x → t ≡ keptIn copy j
+pub kept-whole : (copy : List ℕ) (j : Joined) {t : List ℕ} → j .answer ≡ Whole → t ≡ storedIn copy (j .joining) → t ≡ keptIn copy j
 unfolding keptIn
-kept-whole copy j e f g = rw (e, ← f) g
+kept-whole copy j e g = rw e g
 
 module _ (t : List ℕ) (f : Fetch) where
   pub stays-closed : f .closed ≡ true → f ≡ heardOf t f

@@ -1,27 +1,22 @@
--- The evening: the tablet asks a reader for all its records, joins and reads them into a table of its own, and carries the day's stamps by
--- that table.
+-- The evening: the tablet asks a reader for all its records, joins and keeps them in a table of its own, whatever number the reader's log
+-- begins with, and carries the day's stamps by that table.
 use mathlib.Core.Bool.{Bool, true, false}
 use mathlib.Core.List.{List, [], _∷_}
 use Prim.Native.Nat.{ℕ, zero, suc}
+use lib.Dec.{eqb}
 use lib.ListN.{replicate, take}
 use Rattle.octets.specs.Choice.{pick}
 use Rattle.codes.specs.Racp.{reportOpcode, allRecords}
-use Rattle.record.specs.declared.kinds.Record.{Record}
-use Rattle.record.specs.declared.kinds.Reading.{Reading}
-use Rattle.record.specs.declared.kinds.Reading.the-variants.{Is, Refused}
-use Rattle.table.specs.Table.{soundB}
-use Rattle.table_write.specs.Append.{appendOf}
 use Rattle.clock.specs.declared.state.Clock.{Clock}
 use Rattle.update.specs.Start.{newReaderOf}
 use Rattle.racp_access.specs.Access.{accessOf}
 use Rattle.racp_notify.specs.Notify.{leastPayload, Notice, notifyOf}
-use Rattle.joining.specs.Joining.{emptyJoining, joinOf}
-use Rattle.joining.specs.Reading.{readJoinedOf}
+use Rattle.joining.specs.Joining.{emptyJoining, joinOf, joinedIn}
 use Rattle.joining.specs.declared.joining.Answer.{Answer}
-use Rattle.joining.specs.declared.joining.Answer.the-variants.{More, Whole}
-use Rattle.joining.specs.declared.joining.Answer.the-variants as answers
+use Rattle.joining.specs.declared.joining.Answer.the-variants.{More, Whole, Refused}
 use Rattle.joining.specs.declared.joining.Joining.{Joining}
 use Rattle.joining.specs.declared.joining.Joined.{Joined}
+use Rattle.keep.specs.Keep.{Keeping, keepOf, keepingNumber}
 use Rattle.carry.specs.Stamp.{carryOf}
 use Rattle.day_sheet.specs.declared.sheet.Sight.{Sight}
 use Rattle.day_sheet.specs.declared.sheet.Sight.the-variants.{Missed, Seen}
@@ -30,21 +25,26 @@ use Rattle.day_play.specs.declared.reader.Note.{Note}
 use Rattle.day_play.specs.declared.reader.Reader.{Reader}
 use Rattle.day_evening.specs.declared.fetch.Fetch.{Fetch}
 
-unfoldable pub loggedIn : List ℕ → Record → List ℕ
-loggedIn copy r = pick (soundB copy) (appendOf copy r) copy
+-- no table: zeros are not sound, so that nothing more is kept in them and carrying refuses with 1
+abbrev pub noTable : List ℕ
+noTable = replicate 528 0
 
--- a record that was read goes into the tablet's own table
-abbrev pub readIn : List ℕ → Reading → List ℕ
-readIn copy (Is r) = loggedIn copy r
-readIn copy Refused = copy
+-- "a refusal changes nothing" of the table, but a record would be missing in it: the tablet then has none
+abbrev pub unlessRefused : Keeping → List ℕ
+unlessRefused k = pick (eqb (keepingNumber (k .answer)) 0) (k .table) noTable
 
-abbrev pub joinedIn : List ℕ → Answer → Joining → List ℕ
-joinedIn copy More j = copy
-joinedIn copy Whole j = readIn copy (readJoinedOf j)
-joinedIn copy answers.Refused j = copy
+-- a whole record is kept in the tablet's own table
+unfoldable pub storedIn : List ℕ → Joining → List ℕ
+storedIn copy j = unlessRefused (keepOf copy (joinedIn j))
+
+-- after a segment that was refused a record would be missing too
+abbrev pub answeredIn : List ℕ → Answer → Joining → List ℕ
+answeredIn copy More j = copy
+answeredIn copy Whole j = storedIn copy j
+answeredIn copy Refused j = noTable
 
 unfoldable pub keptIn : List ℕ → Joined → List ℕ
-keptIn copy j = joinedIn copy (j .answer) (j .joining)
+keptIn copy j = answeredIn copy (j .answer) (j .joining)
 
 abbrev pub fetch : Clock → Joining → List ℕ → Bool → Fetch
 fetch c j t b = record { clock = c; joining = j; copy = t; closed = b }
@@ -69,9 +69,9 @@ unfoldable pub heardAll : ℕ → List ℕ → Fetch → Fetch
 heardAll zero t f = f
 heardAll (suc n) t f = heardAll n t (heardOf t f)
 
--- of a report that did not close the tablet has no table: zeros are not sound, and carrying refuses with 1
+-- of a report that did not close the tablet has no table either
 unfoldable pub finishedOf : Fetch → List ℕ
-finishedOf f = pick (f .closed) (f .copy) (replicate 528 0)
+finishedOf f = pick (f .closed) (f .copy) noTable
 
 -- a report of all records: of eight each has two segments, and one asking more closes it
 unfoldable pub reportOf : Reader → Fetch

@@ -1,5 +1,5 @@
-// The evening: the tablet asks a reader for all its records, joins and reads them into a table of its own, and
-// carries the day's stamps by that table.
+// The evening: the tablet asks a reader for all its records, joins and keeps them in a table of its own, whatever number
+// the reader's log begins with, and carries the day's stamps by that table.
 use carry::stamp::carry;
 use clock::state::Clock;
 use codes::racp::ALL_RECORDS;
@@ -12,18 +12,16 @@ use joining::joining::Joined;
 use joining::joining::Joining;
 use joining::joining::join;
 use joining::joining::restart;
-use joining::reading::read_joined;
+use keep::keep::keep;
+use keep::keep::keeping_number;
 use racp_access::access::record_access;
 use racp_notify::notify::LEAST_PAYLOAD;
 use racp_notify::notify::notify;
-use record::kinds::Reading;
-use record::kinds::Record;
+use record::kinds::MOST_BYTES;
 use rows::rows::LEAST_OUTPUT;
-use table_sound::sound::sound;
-use table_write::append::append;
 use update::start::start;
 ghost use mathlib.Core.Path.{_≡_};
-ghost use Rattle.day_evening.specs.Fetch.{loggedIn, keptIn, askedOf, heardOf, finishedOf, fetchedOf, sightOf};
+ghost use Rattle.day_evening.specs.Fetch.{storedIn, keptIn, askedOf, heardOf, finishedOf, fetchedOf, sightOf};
 
 // What the reader's clock is and what the tablet has, in the course of a report.
 pub struct Fetch {
@@ -33,19 +31,25 @@ pub struct Fetch {
     pub closed: bool,
 }
 
-// Stands before the door of `append`: the tablet's own table is tested too.
-fn logged(copy: [u8; 528], r: Record) -> [u8; 528]
-    ensures { λ t. ⌜ t ≡ loggedIn copy r ⌝ }
+// A whole record goes into the tablet's table. Where keeping refuses it the tablet has no table: zeros are not sound, so
+// that nothing more is kept in them and carrying refuses with 1.
+fn stored(copy: [u8; 528], joining: Joining) -> [u8; 528]
+    ensures { λ t. ⌜ t ≡ storedIn copy joining ⌝ }
 {
     let mut after = copy;
-    if !sound(&after) {
-        return after;
+    let bytes = joining.bytes;
+    if joining.len > MOST_BYTES {
+        return [0u8; 528];
     }
-    append(&mut after, r);
+    let len = joining.len as usize;
+    let answer = keep(&mut after, &bytes[..len]);
+    if keeping_number(answer) > 0 {
+        return [0u8; 528];
+    }
     after
 }
 
-// A whole record that reads well goes into the tablet's table.
+// After a segment that was refused a record would be missing: no table either.
 fn kept(copy: [u8; 528], j: Joined) -> [u8; 528]
     ensures { λ t. ⌜ t ≡ keptIn copy j ⌝ }
 {
@@ -53,14 +57,8 @@ fn kept(copy: [u8; 528], j: Joined) -> [u8; 528]
     let joining = j.joining;
     match answer {
         Answer::More => copy,
-        Answer::Whole => {
-            let reading = read_joined(joining);
-            match reading {
-                Reading::Is(r) => logged(copy, r),
-                Reading::Refused => copy,
-            }
-        }
-        Answer::Refused => copy,
+        Answer::Whole => stored(copy, joining),
+        Answer::Refused => [0u8; 528],
     }
 }
 
@@ -114,7 +112,7 @@ fn heard(f: Fetch, table: [u8; 528]) -> Fetch
     }
 }
 
-// Of a report that did not close the tablet has no table: zeros are not sound, and carrying refuses with 1.
+// Of a report that did not close the tablet has no table either.
 fn finished(f: Fetch) -> [u8; 528]
     ensures { λ t. ⌜ t ≡ finishedOf f ⌝ }
 {

@@ -55,12 +55,12 @@ fn stepped(ramp: Ramp, h: Happening) -> Ramp
 }
 
 // The ramp after all that happened, from two readers just started.
-pub fn played(day: [Happening; 46]) -> Ramp
+pub fn played(day: [Happening; 78]) -> Ramp
     ensures { λ r. ⌜ r ≡ playedOf openedOf day ⌝ }
 {
     let mut ramp = opened();
     let mut i = 0;
-    while i < 46 {
+    while i < 78 {
         let h = day[i];
         ramp = stepped(ramp, h);
         i += 1;

@@ -1,7 +1,8 @@
 -- The sheet of the story, computed on these very definitions: every call of the day with its bytes, both reports in segments of 20 bytes,
--- joined, read and carried.
+-- joined, kept and carried.
 use mathlib.Core.Path.{_≡_}
-use mathlib.Core.List.{List, [], _∷_, _++_}
+use mathlib.Core.Bool.{true}
+use mathlib.Core.List.{List, [], _∷_, _++_, map}
 use Prim.Native.Nat.{ℕ}
 use Rattle.octets.specs.Parts.{zerosB, over}
 use Rattle.rules.specs.Fields.{baseB, zoneB, dstB, sourceB, statusB, bitsB}
@@ -10,7 +11,7 @@ use Rattle.text.specs.Line.{digitsUpTo, decimal}
 use Rattle.record.specs.Fields.{sequenceOf}
 use Rattle.record_write.specs.Layout.{updateBytes, faultBytes, bytesOf, updateRead, faultRead, recordOf, sizedB, shapeB}
 use Rattle.record_read.specs.Reading.{updateB, faultB, recordB, wellFormedB, readOf}
-use Rattle.table.specs.Table.{sizeB, startB, emptyB, fieldsB, headB, slot, bytesIn, recordIn, slots, ring, held, slotB, rowB, soundB, steps}
+use Rattle.table.specs.Table.{sizeB, startB, emptyB, fieldsB, headB, slot, bytesIn, recordIn, slots, ring, held, slotB, rowB, soundB, steps, next}
 use Rattle.table_write.specs.Start.{fresh, startOf}
 use Rattle.table_write.specs.Append.{placeOf, slotOf, headerAfter, appendOf}
 use Rattle.table_look.specs.Matching.{firstFrom, nextMatch, matchingFrom, matching}
@@ -39,14 +40,14 @@ use Rattle.racp_access.specs.Report as reports
 use Rattle.racp_access.specs.Access.{accessRows, accessed, begunOf, abortedOf, accessedOf, accessOf}
 use Rattle.racp_notify.specs.Notify.{roomB, notifyRows, headerOf, segmentOf, leftAfter, closingOf, saidOf, noticed, runningNotice, notifyOf}
 use Rattle.joining.specs.Joining.{emptyJoining, rangesB, filledB, placedB, followsB, standing, takesB, ground, takenOf, joinOf}
-use Rattle.joining.specs.Reading.{readJoinedOf}
+use Rattle.keep.specs.Keep.{numbered, recordKept, keepOf, keepingNumber}
 use Rattle.carry.specs.Stamp.{laterOf, movedBy, carriedOver, carriedFrom, carryOf}
 use Rattle.carry.specs.Stamp as carries
 use Rattle.day_sheet.specs.Sheet.{twoDigits, timeOfDay, notedOf, signedOf, outcomeOf, carriedOf, shownText, gap, apartText, pairText, tagLine}
 use Rattle.day_play.specs.Reader.{proposalBytes, startedOf, withClock, setOf, failedOf, livedOf}
 use Rattle.day_play.specs.Reader as readers
 use Rattle.day_play.specs.Play.{openedOf, steppedOf, playedOf}
-use Rattle.day_evening.specs.Fetch.{loggedIn, keptIn, heardOf, heardAll, finishedOf, reportOf, fetchedOf, sightOf}
+use Rattle.day_evening.specs.Fetch.{storedIn, keptIn, heardOf, heardAll, finishedOf, reportOf, fetchedOf, sightOf}
 use Rattle.day_evening.specs.Fetch as evenings
 use Rattle.day_play.specs.declared.play.Ramp.{Ramp}
 use Rattle.loading_day.specs.Story.{theDay, theTags}
@@ -59,7 +60,7 @@ theRamp = playedOf openedOf theDay
 
 -- the text of its sheet
 unfoldable pub theSheet : List ℕ
-unfolding theRamp sheetOf eveningOf linesOf theTags fetchedOf finishedOf reportOf heardAll heardOf keptIn loggedIn sightOf evenings.askedOf accessOf accessRows accessed begunOf abortedOf accessedOf requestOf askedOf abortOf requests.filterOperand operandBytes typedB filterAt codeOf codeBytes countBytes firstNumber leftAt leftFrom firstFrom nextMatch matchingFrom matching notifyOf notifyRows roomB headerOf segmentOf leftAfter closingOf saidOf noticed runningNotice reports.firstBytes emptyJoining rangesB filledB placedB followsB standing takesB ground takenOf joinOf readJoinedOf readOf carryOf carriedFrom carriedOver movedBy laterOf carries.carryingNumber tagLine pairText apartText gap shownText carriedOf outcomeOf signedOf notedOf timeOfDay twoDigits decimal digitsUpTo
+unfolding theRamp sheetOf eveningOf linesOf theTags fetchedOf finishedOf reportOf heardAll heardOf keptIn storedIn keepOf recordKept numbered keepingNumber sightOf evenings.askedOf accessOf accessRows accessed begunOf abortedOf accessedOf requestOf askedOf abortOf requests.filterOperand operandBytes typedB filterAt codeOf codeBytes countBytes firstNumber leftAt leftFrom firstFrom nextMatch matchingFrom matching notifyOf notifyRows roomB headerOf segmentOf leftAfter closingOf saidOf noticed runningNotice reports.firstBytes emptyJoining rangesB filledB placedB followsB standing takesB ground takenOf joinOf readOf carryOf carriedFrom carriedOver movedBy laterOf carries.carryingNumber tagLine pairText apartText gap shownText carriedOf outcomeOf signedOf notedOf timeOfDay twoDigits decimal digitsUpTo
 theSheet = eveningOf theTags theRamp
 
 -- a text's lines in a row
@@ -89,8 +90,30 @@ printed =
     ∷ (52 ∷ 49 ∷ 48 ∷ 56 ∷ 32 ∷ 48 ∷ 54 ∷ 58 ∷ 51 ∷ 55 ∷ 58 ∷ 48 ∷ 54 ∷ 32 ∷ 48 ∷ 54 ∷ 58 ∷ 51 ∷ 55 ∷ 58 ∷ 48 ∷ 48 ∷ 32 ∷ 54 ∷ 32 ∷ 124 ∷ 32 ∷ 48 ∷ 54 ∷ 58 ∷ 51 ∷ 55 ∷ 58 ∷ 48 ∷ 54 ∷ 32 ∷ 48 ∷ 54 ∷ 58 ∷ 51 ∷ 55 ∷ 58 ∷ 48 ∷ 48 ∷ 32 ∷ 54 ∷ 10 ∷ [])
     ∷ []
 
--- The sheet, and that the tablet's tables are byte for byte the readers' own.
+-- The table u is a copy of the table t: sound, with t's records and t's next number, though not always in t's slots; so any stamp is carried
+-- by u as by t.
+pub record Copied (t u : List ℕ) : Type 0 where
+  pub sound : soundB u ≡ true
+  pub held : held u ≡ held t
+  pub next : next u ≡ next t
+  pub carries : (stamp q : ℕ) → carryOf stamp q u ≡ carryOf stamp q t
+
+-- the numbers of the records that the readers hold in the evening: the left log begins at 0, the right one no longer does
+abbrev pub leftNumbers : List ℕ
+leftNumbers = 0 ∷ 1 ∷ []
+
+abbrev pub rightNumbers : List ℕ
+rightNumbers = 3 ∷ 4 ∷ 5 ∷ 6 ∷ 7 ∷ 8 ∷ 9 ∷ 10 ∷ []
+
+-- what the tablet has of a ramp's logs: copies of the readers' own tables; of the log that begins at 0 the table itself, byte for byte
+pub record Fetched (v : Ramp) : Type 0 where
+  pub left : Copied (v .left .table) (fetchedOf (v .left))
+  pub right : Copied (v .right .table) (fetchedOf (v .right))
+  pub left-numbers : map sequenceOf (held (v .left .table)) ≡ leftNumbers
+  pub right-numbers : map sequenceOf (held (v .right .table)) ≡ rightNumbers
+  pub left-bytes : fetchedOf (v .left) ≡ v .left .table
+
+-- The sheet, and that the tablet's tables are copies.
 pub record Printed : Type 0 where
   pub text : sheetOf theDay theTags ≡ joinedLines printed
-  pub left : fetchedOf (playedOf openedOf theDay .left) ≡ playedOf openedOf theDay .left .table
-  pub right : fetchedOf (playedOf openedOf theDay .right) ≡ playedOf openedOf theDay .right .table
+  pub copies : Fetched (playedOf openedOf theDay)

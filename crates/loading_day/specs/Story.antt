@@ -1,5 +1,6 @@
--- An ordinary loading day on a ramp of two antennas, as data: at which reader, what happens. Times are Base_Time of 2026-10-05.
-use mathlib.Core.List.{List, [], _∷_}
+-- An ordinary loading day on a ramp of two antennas and what came before it, as data: at which reader, what happens. Times are Base_Time;
+-- the day is 2026-10-05.
+use mathlib.Core.List.{List, [], _∷_, _++_}
 use Prim.Native.Nat.{ℕ}
 use Rattle.day_play.specs.declared.play.Antenna.{Antenna}
 use Rattle.day_play.specs.declared.play.Antenna.the-variants.{Left, Right, Both}
@@ -10,9 +11,31 @@ use Rattle.day_play.specs.declared.reader.Event.the-variants.{Seconds, Connect,
 abbrev pub at : Antenna → Event → Happening
 at a e = record { at = a; event = e }
 
+-- A Monday at six: the tablet sets the right clock, and then a week passes, in which this clock gains three seconds.
+unfoldable pub monday : ℕ → List Happening
+monday base = at Right Connect ∷ at Right (Propose base) ∷ at Right Disconnect ∷ at Right (Seconds 604803) ∷ []
+
+-- The right reader has been on the ramp since summer, the left one is new. The eight Mondays before the day, from 10 August to 28 September:
+-- the right reader's log of eight slots is full then, and the day's records overwrite the oldest.
+unfoldable pub theSeason : List Happening
+unfolding monday
+theSeason =
+    monday 839656800
+    ++ (monday 840261600
+    ++ (monday 840866400
+    ++ (monday 841471200
+    ++ (monday 842076000
+    ++ (monday 842680800
+    ++ (monday 843285600
+    ++ (monday 843890400)))))))
+
+-- what came before, then the day
 unfoldable pub theDay : List Happening
+unfolding theSeason
 theDay =
-    -- Six o'clock: the tablet in the cab sets both clocks. It is ten minutes fast when it sets the left one.
+    theSeason
+    ++ (
+    -- 5 October, six o'clock: the tablet in the cab sets both clocks. It is ten minutes fast when it sets the left one.
     at Both Connect
     ∷ at Left (Propose 844495800)
     ∷ at Right (Propose 844495200)
@@ -65,7 +88,7 @@ theDay =
     -- Half past five in the evening: the tablet comes for the logs.
     ∷ at Both (Seconds 39174)
     ∷ at Both Connect
-    ∷ []
+    ∷ [])
 
 -- the beasts' ear tags, by their places in the list
 unfoldable pub theTags : List ℕ

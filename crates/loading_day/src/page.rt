@@ -74,7 +74,7 @@ fn evening(ramp: Ramp, tags: [u16; 8]) -> Page
 }
 
 // The sheet of a day.
-pub fn sheet(day: [Happening; 46], tags: [u16; 8]) -> Page
+pub fn sheet(day: [Happening; 78], tags: [u16; 8]) -> Page
     ensures { λ p. ⌜ (pageText p ≡ sheetOf day tags) × (p .len ≤ 864) ⌝ }
 {
     evening(played(day), tags)

@@ -1,6 +1,6 @@
-// The story: an ordinary loading day, as data, each happening written as one number (written.rt). Both clocks run all day,
-// so seconds pass at both antennas. The time fault comes early: of the reader that it befalls no stamp taken before it
-// can be carried.
+// The story: an ordinary loading day and what came before it, as data, each happening written as one number (written.rt).
+// Both clocks run all day, so seconds pass at both antennas. The time fault comes early: of the reader that it befalls no
+// stamp taken before it can be carried.
 use crate::written::BOTH;
 use crate::written::CONNECT;
 use crate::written::DISCONNECT;
@@ -17,8 +17,50 @@ ghost use Rattle.loading_day.specs.Story.{theDay, theTags};
 ghost use Rattle.loading_day.specs.Printed.{Printed};
 ghost use Rattle.loading_day.specs.Written.{happeningsOf};
 
-const DAY: [u64; 46] = [
-    // Six o'clock: the tablet in the cab sets both clocks. It is ten minutes fast when it sets the left one.
+const DAY: [u64; 78] = [
+    // The right reader has been on the ramp since summer, the left one is new. On eight Mondays at six the tablet set the
+    // right clock, which gains three seconds a week: its log of eight slots is full, and the day's records overwrite the
+    // oldest. 10 August:
+    RIGHT + CONNECT,
+    RIGHT + PROPOSE + 839656800,
+    RIGHT + DISCONNECT,
+    RIGHT + SECONDS + 604803,
+    // 17 August:
+    RIGHT + CONNECT,
+    RIGHT + PROPOSE + 840261600,
+    RIGHT + DISCONNECT,
+    RIGHT + SECONDS + 604803,
+    // 24 August:
+    RIGHT + CONNECT,
+    RIGHT + PROPOSE + 840866400,
+    RIGHT + DISCONNECT,
+    RIGHT + SECONDS + 604803,
+    // 31 August:
+    RIGHT + CONNECT,
+    RIGHT + PROPOSE + 841471200,
+    RIGHT + DISCONNECT,
+    RIGHT + SECONDS + 604803,
+    // 7 September:
+    RIGHT + CONNECT,
+    RIGHT + PROPOSE + 842076000,
+    RIGHT + DISCONNECT,
+    RIGHT + SECONDS + 604803,
+    // 14 September:
+    RIGHT + CONNECT,
+    RIGHT + PROPOSE + 842680800,
+    RIGHT + DISCONNECT,
+    RIGHT + SECONDS + 604803,
+    // 21 September:
+    RIGHT + CONNECT,
+    RIGHT + PROPOSE + 843285600,
+    RIGHT + DISCONNECT,
+    RIGHT + SECONDS + 604803,
+    // 28 September:
+    RIGHT + CONNECT,
+    RIGHT + PROPOSE + 843890400,
+    RIGHT + DISCONNECT,
+    RIGHT + SECONDS + 604803,
+    // 5 October, six o'clock: the tablet in the cab sets both clocks. It is ten minutes fast when it sets the left one.
     BOTH + CONNECT,
     LEFT + PROPOSE + 844495800,
     RIGHT + PROPOSE + 844495200,
@@ -77,20 +119,20 @@ const DAY: [u64; 46] = [
 const TAGS: [u16; 8] = [4101, 4102, 4103, 4104, 4105, 4106, 4107, 4108];
 
 // The day as it is written.
-fn numbers() -> [u64; 46]
+fn numbers() -> [u64; 78]
     ensures { λ r. ⌜ happeningsOf r ≡ theDay ⌝ }
 {
     DAY
 }
 
 // The day read from its numbers, one after the other.
-pub fn day() -> [Happening; 46]
+pub fn day() -> [Happening; 78]
     ensures { λ r. ⌜ r ≡ theDay ⌝ }
 {
     let numbers = numbers();
-    let mut day = [happening(numbers[0]); 46];
+    let mut day = [happening(numbers[0]); 78];
     let mut k = 0;
-    while k < 46 {
+    while k < 78 {
         day[k] = happening(numbers[k]);
         k += 1;
     }

@@ -12,10 +12,10 @@ use Rattle.day_play.proofs.play.played.Statement.{statement}
 use Rattle.day_play.proofs.play.played.Tie as tie
 
 abbrev Inv-loop : tie.InvT-loop
-Inv-loop day ramp₀ i₀ ramp i = (i ≤ 46) × (playedOf ramp (drop i day) ≡ playedOf ramp₀ day)
+Inv-loop day ramp₀ i₀ ramp i = (i ≤ 78) × (playedOf ramp (drop i day) ≡ playedOf ramp₀ day)
 
 abbrev μ-loop : tie.MeasureT-loop
-μ-loop day ramp₀ i₀ ramp i = 46 - i
+μ-loop day ramp₀ i₀ ramp i = 78 - i
 
 opened-requires : tie.Need-opened-requires Inv-loop μ-loop
 opened-requires c κs = search needs
@@ -43,7 +43,7 @@ loop-again c =
     let l = c .before .before .before in
     let day = l .before .before .args .t1 in
     let i = l .loop .i in
-    let long : length day ≡ 46 = search needs in (
+    let long : length day ≡ 78 = search needs in (
       omega arith,
       ap (λ (v : Ramp). playedOf v (drop (i + 1) day)) (c .stepped .ensures)
           ∙ sym (played-next (l .loop .ramp) day i _ (omega arith))
@@ -55,7 +55,7 @@ returns c =
     let l = c .before in
     let o = l .before in
     let day = o .before .args .t1 in
-    let long : length day ≡ 46 = search needs in
+    let long : length day ≡ 78 = search needs in
     sym (played-end (l .loop .ramp) day (l .loop .i) (omega arith))
     ∙ l .loop .inv .1
     ∙ ap (λ (v : Ramp). playedOf v day) (o .opened .ensures)

@@ -12,10 +12,10 @@ use Rattle.loading_day.proofs.story.day.Statement.{statement}
 use Rattle.loading_day.proofs.story.day.Tie as tie
 
 abbrev Inv-loop : tie.InvT-loop
-Inv-loop numbers day₀ k₀ day k = (k ≤ 46) × (length day ≡ 46) × (take k day ++ happeningsOf (drop k numbers) ≡ happeningsOf numbers)
+Inv-loop numbers day₀ k₀ day k = (k ≤ 78) × (length day ≡ 78) × (take k day ++ happeningsOf (drop k numbers) ≡ happeningsOf numbers)
 
 abbrev μ-loop : tie.MeasureT-loop
-μ-loop numbers day₀ k₀ day k = 46 - k
+μ-loop numbers day₀ k₀ day k = 78 - k
 
 numbers-requires : tie.Need-numbers-requires Inv-loop μ-loop
 numbers-requires c κs = search needs
@@ -54,8 +54,8 @@ loop-again : tie.Need-loop-again Inv-loop μ-loop
 loop-again c =
     let l = c .before .before in
     let numbers = l .before .before .numbers .result in
-    let long : length numbers ≡ 46 = search needs in
-    let day-long : length (l .loop .day) ≡ 46 = l .loop .inv .1 in (
+    let long : length numbers ≡ 78 = search needs in
+    let day-long : length (l .loop .day) ≡ 78 = l .loop .inv .1 in (
       omega arith,
       length-set (l .loop .day) (l .loop .k) _ ∙ day-long,
       read-more (l .loop .day) numbers (l .loop .k) _ (omega arith) (omega arith) (c .happening2 .ensures) ∙ l .loop .inv .2,
@@ -66,8 +66,8 @@ returns c =
     let l = c .before in
     let n = l .before .before in
     let numbers = n .numbers .result in
-    let long : length numbers ≡ 46 = search needs in
-    let day-long : length (l .loop .day) ≡ 46 = l .loop .inv .1 in
+    let long : length numbers ≡ 78 = search needs in
+    let day-long : length (l .loop .day) ≡ 78 = l .loop .inv .1 in
     sym (read-all (l .loop .day) numbers (l .loop .k) (omega arith) (omega arith)) ∙ l .loop .inv .2 ∙ n .numbers .ensures
 
 pub day-spec : {M : Type 1} → statement M
