@@ -362,6 +362,21 @@ module _ (s t : List ℕ) (ks : List EntryCall) (hs : length s ≡ stateBytes) (
       ∙ holds-logged .counts t (callsOf since) ht
       ∙ ap (λ (n : ℕ). n % 65536) (sym (ap length logged-since ∙ length-map (loggedOf (newWorld t) (callsOf since)) bytesOf))
 
+slots-at : (s t : List ℕ) (before : List EntryCall) (after : List ByteCall) → length s ≡ stateBytes → sizeB (length t) ≡ true
+    → allHeldAt (historyAt (startedAt s t) before) after ≡ leb (length (loggedAt (historyAt (startedAt s t) before) after)) (slotsIn (length t))
+slots-at s t before after hs ht =
+    let ks = callsOf (sinceStart [] before) in
+    let v = runOf (newWorld t) ks in
+    let f = run-fit (sinceStart [] before) (newWorld t) (new-fit t ht) in
+    rw (images .since s t before hs ht)
+    (held-is v after f ∙ holds-logged .by-slots t ks (callsOf after) ht
+    ∙ ap (λ (n : ℕ). leb n (slotsIn (length t))) (sym (length-logged v after f)))
+
+later-at : (b : ByteWorld) (after : List ByteCall) → allHeldAt b after ≡ true
+    → newest (length (loggedAt b after)) (heldIn (runAt b after .table)) ≡ loggedAt b after
+unfolding allHeldAt
+later-at b after h = same-rows _ _ h
+
 pub holds-logged-at : HoldsLoggedAt
 holds-logged-at =
     record {
@@ -371,4 +386,6 @@ holds-logged-at =
       same-back = rows-itself;
       by-counts = λ s t before after hs ht.
           rw (reached s t hs ht before) (counts-are (historyOf (newWorld t) before) after (reached-fit s t hs ht before));
+      by-slots = slots-at;
+      later = later-at;
     }

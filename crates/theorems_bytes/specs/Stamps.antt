@@ -107,7 +107,8 @@ allHeldAt b after = let l = loggedAt b after in sameRowsB (newest (length l) (he
 
 -- Theorem Holds what was logged, over bytes: the table holds the newest of the records logged since the last start, oldest first, as many as
 -- it has slots, byte for byte; its next number counts them. What `allHeldAt` tests is that the last calls' records are the newest of the held
--- ones; to compare their count with H, the table's bytes 2 and 3, would give the same answer.
+-- ones; to compare their count with H, the table's bytes 2 and 3, would give the same answer, and they are held exactly where they are no
+-- more than the table has slots.
 pub record HoldsLoggedAt : Type 0 where
   pub holds : (s t : List ℕ) (ks : List EntryCall) → length s ≡ stateBytes → sizeB (length t) ≡ true
       → heldIn (historyAt (startedAt s t) ks .table) ≡ newest (slotsIn (length t)) (loggedAt (startedAt s t) (sinceStart [] ks))
@@ -118,6 +119,10 @@ pub record HoldsLoggedAt : Type 0 where
   pub by-counts : (s t : List ℕ) (before : List EntryCall) (after : List ByteCall) → length s ≡ stateBytes → sizeB (length t) ≡ true
       → allHeldAt (historyAt (startedAt s t) before) after
       ≡ leb (length (loggedAt (historyAt (startedAt s t) before) after)) (count (runAt (historyAt (startedAt s t) before) after .table))
+  pub by-slots : (s t : List ℕ) (before : List EntryCall) (after : List ByteCall) → length s ≡ stateBytes → sizeB (length t) ≡ true
+      → allHeldAt (historyAt (startedAt s t) before) after ≡ leb (length (loggedAt (historyAt (startedAt s t) before) after)) (slotsIn (length t))
+  pub later : (b : ByteWorld) (after : List ByteCall) → allHeldAt b after ≡ true
+      → newest (length (loggedAt b after)) (heldIn (runAt b after .table)) ≡ loggedAt b after
 
 pub record CarriesAt (b : ByteWorld) (after : List ByteCall) (o p : List ℕ) (y : ℤ) : Type 0 where
   pub noted : deviceTimeAt (b .state) (b .table) o .result ≡ pos 10

@@ -5,7 +5,7 @@ use mathlib.Core.Bool.{Bool, true, false}
 use mathlib.Core.List.{List, [], _∷_, _++_}
 use Prim.Native.Nat.{ℕ, _+_, _-_, _%_, _<_, _≤_}
 use native.Mathlib.Omega.{arith}
-use borrow.Author.Tests.{leb-true, leb-false}
+use borrow.Author.Tests.{leb-true, leb-false, le-leb, lt-leb}
 use lib.Dec.{leb}
 use lib.IntN.{ℤ, pos, _-ℤ_, +ℤ-idr}
 use lib.ListN.{length, length-append, length-drop}
@@ -89,6 +89,21 @@ module _ (v w : World) (l : List Record) (n : ℕ) (g : Good v) (d : Went v w l 
       let e = d .kept (held (v .table)) held-all in
       ap (newest (length l)) e ∙ newest-last (capacity (w .table)) (held (v .table)) l (rw e at h)
 
+  -- they are all held exactly where there are slots for them
+  held-slots : leb (length l) (length (held (w .table))) ≡ leb (length l) (capacity (w .table))
+  held-slots =
+      let n = capacity (w .table) in
+      let x = held (v .table) ++ l in
+      let e = ap length (d .kept (held (v .table)) held-all) ∙ length-drop (length x - n) x in
+      let f = length-append (held (v .table)) l in
+      go (leb (length l) n) refl ((λ h. omega arith), omega arith)
+    where
+      go : (b : Bool) → leb (length l) (capacity (w .table)) ≡ b
+          → (length l ≤ capacity (w .table) → length l ≤ length (held (w .table))) × (length (held (w .table)) ≤ capacity (w .table))
+          → leb (length l) (length (held (w .table))) ≡ b
+      go true e f = le-leb (length l) (length (held (w .table))) (f .0 (leb-true (length l) (capacity (w .table)) e))
+      go false e f = lt-leb (length l) (length (held (w .table))) (omega (arith, f .1, leb-false (length l) (capacity (w .table)) e))
+
   -- so the test by the records is one of the counts
   held-counts : sameRecordsB (newest (length l) (held (w .table))) l ≡ leb (length l) (length (held (w .table)))
   held-counts = go (leb (length l) (length (held (w .table)))) refl
@@ -139,6 +154,15 @@ pub by-counts : (v : World) (after : List Call) → Good v
     → allHeldB v after ≡ leb (length (loggedOf v after)) (length (held (runOf v after .table)))
 unfolding allHeldB
 by-counts v after g = held-counts v (runOf v after) (loggedOf v after) (ranOf v after) g (went-run after v g)
+
+by-slots : (t : List ℕ) (before after : List Call) → sizeB (length t) ≡ true
+    → allHeldB (runOf (newWorld t) before) after ≡ leb (length (loggedOf (runOf (newWorld t) before) after)) (slotsIn (length t))
+by-slots t before after h =
+    let v = runOf (newWorld t) before in
+    let g = reachable t before h in
+    let d = went-run after v g in
+    by-counts v after g ∙ held-slots v (runOf v after) (loggedOf v after) (ranOf v after) g d
+    ∙ ap (leb (length (loggedOf v after))) (d .capacity ∙ went-run before (newWorld t) (new-good t h) .capacity ∙ new-table t h .capacity)
 
 pub carries : (v : World) (after : List Call) → Good v → length (loggedOf v after) < 65536 → Carries carryOf v after
 unfolding carryingNumber
@@ -200,5 +224,6 @@ holds-logged =
       same = same-records;
       same-back = same-itself;
       by-counts = λ t before after h. by-counts (runOf (newWorld t) before) after (reachable t before h);
+      by-slots = by-slots;
       later = logged-later;
     }

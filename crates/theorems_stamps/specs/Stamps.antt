@@ -84,7 +84,7 @@ allHeldB v after = let l = loggedOf v after in sameRecordsB (newest (length l) (
 
 -- The log holds the newest of the records that the calls logged, oldest first, as many as it has slots; its next number counts them. What
 -- `allHeldB` tests is that the last calls' records are the newest of the held ones, no more and no less; to compare their counts would give
--- the same answer.
+-- the same answer, and they are held exactly where they are no more than the log has slots.
 pub record HoldsLogged : Type 0 where
   pub holds : (t : List ℕ) (calls : List Call) → sizeB (length t) ≡ true
       → held (runOf (newWorld t) calls .table) ≡ newest (slotsIn (length t)) (loggedOf (newWorld t) calls)
@@ -95,6 +95,8 @@ pub record HoldsLogged : Type 0 where
   pub by-counts : (t : List ℕ) (before after : List Call) → sizeB (length t) ≡ true
       → allHeldB (runOf (newWorld t) before) after
       ≡ leb (length (loggedOf (runOf (newWorld t) before) after)) (length (held (runOf (runOf (newWorld t) before) after .table)))
+  pub by-slots : (t : List ℕ) (before after : List Call) → sizeB (length t) ≡ true
+      → allHeldB (runOf (newWorld t) before) after ≡ leb (length (loggedOf (runOf (newWorld t) before) after)) (slotsIn (length t))
   pub later : (t : List ℕ) (before after : List Call) → sizeB (length t) ≡ true → allHeldB (runOf (newWorld t) before) after ≡ true
       → newest (length (loggedOf (runOf (newWorld t) before) after)) (held (runOf (runOf (newWorld t) before) after .table))
       ≡ loggedOf (runOf (newWorld t) before) after
