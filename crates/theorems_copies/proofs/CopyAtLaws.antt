@@ -7,12 +7,13 @@ use Prim.Native.Nat.{ℕ, zero, suc, _≤_}
 use native.Mathlib.Omega.{arith}
 use borrow.Author.Tests.{eq-eqb, ne-eqb}
 use lib.Dec.{eqb}
+use lib.IntN.{ℤ}
 use lib.ListN.{length, replicate, length-drop}
 use Rattle.octets.specs.Choice.{both, pick}
 use Rattle.octets.specs.Parts.{part, Bytes}
 use Rattle.filter.specs.declared.filter.Filter.the-variants.{All}
 use Rattle.record.specs.Fields.{mostBytes}
-use Rattle.table.specs.Table.{slotsIn, sizeB}
+use Rattle.table.specs.Table.{next, slotsIn, sizeB, soundB}
 use Rattle.table.proofs.HeadLaws.{size-reads}
 use Rattle.table_write.specs.Start.{fresh, startOf}
 use Rattle.update.specs.Start.{newReaderOf}
@@ -21,7 +22,7 @@ use Rattle.joining.specs.declared.joining.Joined.{Joined}
 use Rattle.joining.specs.declared.joining.Joining.{Joining}
 use Rattle.joining.proofs.JoiningLaws.{Joins, refuses, goes-on, ends, join-is, empty-bytes}
 use Rattle.keep.specs.Keep.{keepOf, keepingNumber}
-use Rattle.carry.specs.Stamp.{carryOf, carryingNumber}
+use Rattle.carry.specs.Stamp.{laterOf, carryOf, carryingNumber}
 use Rattle.carry.specs.declared.stamp.Carried.{Carried}
 use Rattle.state_bytes.specs.Results.{refusal}
 use Rattle.state_bytes.specs.State.{stateBytes}
@@ -31,15 +32,17 @@ use Rattle.server_bytes.specs.Start.{startAt}
 use Rattle.tablet_bytes.specs.Calls.{JoinedBytes, joinResult, keepAt, carrying, stampAfter, carryAt}
 use Rattle.theorems_calls.proofs.JoinedLaws.{keeps-ranges}
 use Rattle.theorems_entry.proofs.PromiseLaws.{composes}
-use Rattle.theorems_reports.specs.World.{World, newWorld}
+use Rattle.theorems_reports.specs.World.{World, newWorld, runOf}
 use Rattle.theorems_reports.specs.Hearing.{Hearing, hearingOf}
 use Rattle.theorems_reports.specs.Reports.{reportBegun}
-use Rattle.theorems_bytes.specs.World.{ByteWorld, ByteCall, racpWrite, stepAt, callsOf, imageIn, historyOf}
-use Rattle.theorems_bytes.specs.Reports.{AcceptedAt, hearingAt, allQuietAt}
-use Rattle.theorems_bytes.proofs.ImageLaws.{Fit, reached, reached-fit}
+use Rattle.theorems_bytes.specs.World.{ByteWorld, ByteCall, racpWrite, stepAt, runAt, historyAt, startedAt, callsOf, imageIn, historyOf}
+use Rattle.theorems_bytes.specs.Reports.{hearingAt}
+use Rattle.theorems_bytes.specs.Stamps.{baseRead, numberRead}
+use Rattle.theorems_bytes.proofs.ImageLaws.{Fit, run-is, run-fit, reached, reached-fit}
 use Rattle.theorems_bytes.proofs.ReportLaws.{accepted-is, heard-is, undisturbed}
+use Rattle.theorems_bytes.proofs.StampLaws.{carried-stamp-at}
 use Rattle.theorems_copies.specs.Copies.{Copy, copy, keepHeard, keepAll, copyOf, CopyOf}
-use Rattle.theorems_copies.specs.CopiesAt.{zeroB, afterKeepingAt, keepHeardAt, keepAllAt, copyAt, FetchedCopyAt, CarriedOverCopyAt}
+use Rattle.theorems_copies.specs.CopiesAt.{zeroB, afterKeepingAt, keepHeardAt, keepAllAt, copyAt, Fetched, FetchedCopyAt, CarriedOverCopyAt, CarriedCopyAt}
 use Rattle.theorems_copies.proofs.CopyLaws.{fetched-copy, carried-over-copy}
 
 zero-number : (n : ℕ) → zeroB (refusal n) ≡ eqb n 0
@@ -78,19 +81,19 @@ copy-is z u notes hz hu =
 
 -- what is fetched at b
 abbrev Fetches : (w o : List ℕ) → Bytes w → List ByteCall → List ℕ → List ℕ → ByteWorld → Type 0
-Fetches w o hw ks z u b = AcceptedAt b w o hw All → allQuietAt (stepAt b (racpWrite w o hw)) ks ≡ true
-    → hearingAt (stepAt b (racpWrite w o hw)) ks .closed ≡ true
+Fetches w o hw ks z u b = Fetched w o hw ks b
     → let c = copyAt z u (hearingAt (stepAt b (racpWrite w o hw)) ks .notes) in (c .fine ≡ true) × CopyOf (slotsIn (length u)) (b .table) (c .table)
 
 at-image : (v : World) (w o : List ℕ) (hw : Bytes w) (ks : List ByteCall) (z u : List ℕ) → Fit v → length z ≡ stateBytes → sizeB (length u) ≡ true
     → Fetches w o hw ks z u (imageIn v)
-at-image v w o hw ks z u x hz hu a quiet closed =
-    let accepted = accepted-is v w o hw All x a in
+at-image v w o hw ks z u x hz hu f =
+    let accepted = accepted-is v w o hw All x (f .accepted) in
     let heard = heard-is v w o hw ks x in
     let n = size-reads (length u) hu in
     let notes : List (List ℕ) = hearingAt (stepAt (imageIn v) (racpWrite w o hw)) ks .notes in
-    let d = fetched-copy v w o (callsOf ks) (slotsIn (length u)) (x .good .bytes) (n .some) (n .few) accepted (undisturbed v w o hw All ks x accepted quiet)
-    (ap (λ (h : Hearing). h .closed) (sym heard) ∙ closed) in
+    let calm = undisturbed v w o hw All ks x accepted (f .quiet) in
+    let d = fetched-copy v w o (callsOf ks) (slotsIn (length u)) (x .good .bytes) (n .some) (n .few) accepted calm
+    (ap (λ (h : Hearing). h .closed) (sym heard) ∙ f .closed) in
     let c : copyOf (slotsIn (length u)) (hearingOf (reportBegun v w o) (callsOf ks) .notes) ≡ copyAt z u notes =
     ap (λ (h : Hearing). copyOf (slotsIn (length u)) (h .notes)) (sym heard) ∙ sym (copy-is z u notes hz hu) in
     subst (λ (k : Copy). (k .fine ≡ true) × CopyOf (slotsIn (length u)) (v .table) (k .table)) c d
@@ -104,3 +107,33 @@ pub carried-over-copy-at : CarriedOverCopyAt
 unfolding carryAt
 carried-over-copy-at n t u sd k stamp q y h =
     ap (λ (c : Carried). carrying (refusal (carryingNumber c)) (stampAfter y c)) (carried-over-copy n t u sd k stamp q h)
+
+-- the calls after the stamp, at the image of a world
+module _ (v : World) (x : Fit v) (after : List ByteCall) (w o : List ℕ) (hw : Bytes w) (ks : List ByteCall) (z u : List ℕ) (hz : length z ≡ stateBytes)
+    (hu : sizeB (length u) ≡ true) where
+  went : runAt (imageIn v) after ≡ imageIn (runOf v (callsOf after))
+  went = run-is after v x
+
+  sound-after : soundB (runAt (imageIn v) after .table) ≡ true
+  sound-after = ap (λ (b : ByteWorld). soundB (b .table)) went ∙ run-fit after v x .good .sound
+
+  fetches-after : Fetches w o hw ks z u (runAt (imageIn v) after)
+  fetches-after = subst (Fetches w o hw ks z u) (sym went) (at-image (runOf v (callsOf after)) w o hw ks z u (run-fit after v x) hz hu)
+
+  carries-after : (stamp q : ℕ) (y : ℤ) → Fetched w o hw ks (runAt (imageIn v) after) → laterOf (next (runAt (imageIn v) after .table)) q ≤ slotsIn (length u)
+      → carryAt stamp q (copyAt z u (hearingAt (stepAt (runAt (imageIn v) after) (racpWrite w o hw)) ks .notes) .table) y
+      ≡ carryAt stamp q (runAt (imageIn v) after .table) y
+  carries-after stamp q y f h = carried-over-copy-at (slotsIn (length u)) _ _ sound-after (fetches-after f .1) stamp q y h
+
+abbrev CarriesCopy : List ByteCall → (w o : List ℕ) → Bytes w → List ByteCall → List ℕ → List ℕ → ByteWorld → Type 0
+CarriesCopy after w o hw ks z u b = (stamp q : ℕ) (y : ℤ) → Fetched w o hw ks (runAt b after) → laterOf (next (runAt b after .table)) q ≤ slotsIn (length u)
+    → carryAt stamp q (copyAt z u (hearingAt (stepAt (runAt b after) (racpWrite w o hw)) ks .notes) .table) y ≡ carryAt stamp q (runAt b after .table) y
+
+pub carried-copy-at : CarriedCopyAt
+carried-copy-at s t before after w x hw ks z u o p y hs ht hz hu ro rp few f h =
+    let b = historyAt (startedAt s t) before in (
+      subst (CarriesCopy after w x hw ks z u) (sym (reached s t hs ht before))
+          (carries-after (historyOf (newWorld t) before) (reached-fit s t hs ht before) after w x hw ks z u hz hu)
+          (baseRead b o) (numberRead b o) y f h,
+      carried-stamp-at s t before after o p y hs ht ro rp few,
+    )

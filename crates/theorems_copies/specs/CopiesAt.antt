@@ -2,7 +2,7 @@
 use mathlib.Core.Path.{_≡_}
 use mathlib.Core.Bool.{Bool, true, false}
 use mathlib.Core.List.{List, [], _∷_}
-use Prim.Native.Nat.{ℕ, suc, _≤_}
+use Prim.Native.Nat.{ℕ, suc, _≤_, _<_}
 use lib.Dec.{eqb}
 use lib.IntN.{ℤ, pos, negsuc}
 use lib.ListN.{length, replicate}
@@ -15,8 +15,9 @@ use Rattle.state_bytes.specs.State.{stateBytes}
 use Rattle.state_bytes.specs.JoiningState.{joiningBytes}
 use Rattle.server_bytes.specs.Start.{startAt}
 use Rattle.tablet_bytes.specs.Calls.{joinAt, KeptBytes, keepAt, carryAt}
-use Rattle.theorems_bytes.specs.World.{ByteCall, racpWrite, stepAt, EntryCall, historyAt, startedAt}
+use Rattle.theorems_bytes.specs.World.{ByteWorld, ByteCall, racpWrite, stepAt, runAt, EntryCall, historyAt, startedAt}
 use Rattle.theorems_bytes.specs.Reports.{hearingAt, AcceptedAt, allQuietAt}
+use Rattle.theorems_bytes.specs.Stamps.{loggedAt, baseRead, numberRead, carriedAt, CarriesAt}
 use Rattle.theorems_copies.specs.Copies.{Copy, copy, CopyOf}
 
 -- the result 0
@@ -40,16 +41,33 @@ keepAllAt c j (n ∷ ns) = keepAllAt (keepHeardAt c (joinAt j n .joining) (joinA
 abbrev pub copyAt : List ℕ → List ℕ → List (List ℕ) → Copy
 copyAt z u notes = keepAllAt (copy (startAt z u .table) true) (replicate joiningBytes 0) notes
 
--- Theorem Fetched copy, over bytes, from start: any entry points, then a report of all records that was accepted, then any calls that end no report, up to
--- the closing response.
+-- At b a report of all records is asked for and accepted, and heard among calls that end no report, up to the closing response.
+pub record Fetched (w o : List ℕ) (hw : Bytes w) (ks : List ByteCall) (b : ByteWorld) : Type 0 where
+  pub accepted : AcceptedAt b w o hw All
+  pub quiet : allQuietAt (stepAt b (racpWrite w o hw)) ks ≡ true
+  pub closed : hearingAt (stepAt b (racpWrite w o hw)) ks .closed ≡ true
+
+-- Theorem Fetched copy, over bytes, from start: any entry points, then a report that is fetched.
 abbrev pub FetchedCopyAt : Type 0
 FetchedCopyAt = (s t : List ℕ) (before : List EntryCall) (w o : List ℕ) (hw : Bytes w) (ks : List ByteCall) (z u : List ℕ)
     → length s ≡ stateBytes → sizeB (length t) ≡ true → length z ≡ stateBytes → sizeB (length u) ≡ true
     → let b = historyAt (startedAt s t) before in
-    AcceptedAt b w o hw All → allQuietAt (stepAt b (racpWrite w o hw)) ks ≡ true → hearingAt (stepAt b (racpWrite w o hw)) ks .closed ≡ true
+    Fetched w o hw ks b
     → let c = copyAt z u (hearingAt (stepAt b (racpWrite w o hw)) ks .notes) in (c .fine ≡ true) × CopyOf (slotsIn (length u)) (b .table) (c .table)
 
 -- `dts_carry` over a copy leaves the result and the stamp that it leaves over the reader's own table, wherever the copy has a slot for each later record.
 abbrev pub CarriedOverCopyAt : Type 0
 CarriedOverCopyAt = (n : ℕ) (t u : List ℕ) → soundB t ≡ true → CopyOf n t u → (stamp q : ℕ) (y : ℤ) → laterOf (next t) q ≤ n
     → carryAt stamp q u y ≡ carryAt stamp q t y
+
+-- Theorem Carried stamp over a fetched copy: at b a stamp is noted with the next number, as read; the calls `after` come; then the tablet fetches the log
+-- into the buffer u. Wherever u has a slot for each later record, as the numbers tell, `dts_carry` over the copy gives what it gives over the reader's own
+-- table, and that is what Carried stamp says.
+abbrev pub CarriedCopyAt : Type 0
+CarriedCopyAt = (s t : List ℕ) (before : List EntryCall) (after : List ByteCall) (w x : List ℕ) (hw : Bytes w) (ks : List ByteCall) (z u o p : List ℕ) (y : ℤ)
+    → length s ≡ stateBytes → sizeB (length t) ≡ true → length z ≡ stateBytes → sizeB (length u) ≡ true → 20 ≤ length o → 20 ≤ length p
+    → let b = historyAt (startedAt s t) before in
+    length (loggedAt b after) < 65536 → Fetched w x hw ks (runAt b after)
+    → laterOf (next (runAt b after .table)) (numberRead b o) ≤ slotsIn (length u)
+    → (carryAt (baseRead b o) (numberRead b o) (copyAt z u (hearingAt (stepAt (runAt b after) (racpWrite w x hw)) ks .notes) .table) y ≡ carriedAt b after o y)
+    × CarriesAt b after o p y

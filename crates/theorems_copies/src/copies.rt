@@ -1,6 +1,6 @@
 // The theorems about copies: each the promise of an empty function, so that the check asks for its proof.
 ghost use Rattle.theorems_copies.specs.Copies.{FetchedCopy, CarriedOverCopy};
-ghost use Rattle.theorems_copies.specs.CopiesAt.{FetchedCopyAt, CarriedOverCopyAt};
+ghost use Rattle.theorems_copies.specs.CopiesAt.{FetchedCopyAt, CarriedOverCopyAt, CarriedCopyAt};
 ghost use Rattle.theorems_copies.specs.Cases.{Computed};
 ghost use Rattle.theorems_copies.specs.CasesAt.{ComputedAt};
 
@@ -22,6 +22,11 @@ pub fn fetched_copy_at()
 // What `dts_carry` leaves over a copy is what it leaves over the reader's own table.
 pub fn carried_over_copy_at()
     ensures { λ _. ⌜ CarriedOverCopyAt ⌝ }
+{}
+
+// A stamp noted, any calls, the log fetched: `dts_carry` over the copy tells the seconds that ran.
+pub fn carried_copy_at()
+    ensures { λ _. ⌜ CarriedCopyAt ⌝ }
 {}
 
 // A log that has rolled, fetched into copies of five slots and of two, and stamps carried over them.
