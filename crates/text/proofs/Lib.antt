@@ -1,2 +1,3 @@
-pub mod TextLaws
 pub mod DecimalLaws
+pub mod LaidLaws
+pub mod TextLaws
