@@ -1,2 +1,3 @@
-// Lines of text for what programs print, each built up by value: `text`.
+// Text for what programs print: a line built up by value, `line`; words and numbers laid over a buffer, `put`.
 pub mod line;
+pub mod put;
