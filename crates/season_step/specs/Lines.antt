@@ -42,15 +42,15 @@ endedWord = 101 ∷ 110 ∷ 100 ∷ 101 ∷ 100 ∷ 32 ∷ []
 unfoldable pub named : List ℕ → ℕ → List ℕ
 named word n = word ++ decimal n
 
--- the five figures, to the line's end
+-- the five figures, to the line's end: three, and two
+unfoldable pub firstFigures : Figures → List ℕ
+firstFigures f = named updatesWord (f .updates) ++ (named forwardWord (f .forward) ++ named backWord (f .back))
+
+unfoldable pub lastFigures : Figures → List ℕ
+lastFigures f = named faultsWord (f .faults) ++ (named largestWord (f .largest) ++ (10 ∷ []))
+
 unfoldable pub figuresText : Figures → List ℕ
-figuresText f =
-    named updatesWord (f .updates)
-    ++ (named forwardWord (f .forward)
-    ++ (named backWord (f .back)
-    ++ (named faultsWord (f .faults)
-    ++ (named largestWord (f .largest)
-    ++ (10 ∷ [])))))
+figuresText f = firstFigures f ++ lastFigures f
 
 unfoldable pub tableLine : ℕ → Figures → List ℕ
 tableLine position f = decimal position ++ figuresText f

@@ -6,7 +6,7 @@ ghost use mathlib.Core.Path.{_≡_};
 ghost use Prim.Native.Nat.{_+_, _≤_};
 ghost use lib.ListN.{length};
 ghost use Rattle.text.specs.Laid.{filled, laid};
-ghost use Rattle.season_step.specs.Lines.{named, figuresText, tableLine, refusedLine, endedLine, totalLine};
+ghost use Rattle.season_step.specs.Lines.{named, firstFigures, lastFigures, figuresText, tableLine, refusedLine, endedLine, totalLine};
 
 // A word, and a number after it.
 fn put_named(out: &mut [u8], at: usize, word: &[u8], n: u64) -> usize
@@ -17,17 +17,32 @@ fn put_named(out: &mut [u8], at: usize, word: &[u8], n: u64) -> usize
     put_number(out, end, n)
 }
 
-// Five words of at most 9 bytes, five numbers of at most 20 digits, and the line's end.
+// Three words of at most 9 bytes, three numbers of at most 20 digits.
+fn put_first(out: &mut [u8], at: usize, f: Figures) -> usize
+    requires { ⌜ at + 87 ≤ length (now out) ⌝ }
+    ensures { λ end. ⌜ filled end (now (out .exit)) ≡ laid (now (out .entry)) at (firstFigures f) ⌝ }
+{
+    let updates = put_named(out, at, b" updates ", f.updates as u64);
+    let forward = put_named(out, updates, b" forward ", f.forward);
+    put_named(out, forward, b" back ", f.back)
+}
+
+// Two words, two numbers, the line's end.
+fn put_last(out: &mut [u8], at: usize, f: Figures) -> usize
+    requires { ⌜ at + 59 ≤ length (now out) ⌝ }
+    ensures { λ end. ⌜ filled end (now (out .exit)) ≡ laid (now (out .entry)) at (lastFigures f) ⌝ }
+{
+    let faults = put_named(out, at, b" faults ", f.faults as u64);
+    let largest = put_named(out, faults, b" largest ", f.largest as u64);
+    put_word(out, largest, b"\n")
+}
+
 fn put_figures(out: &mut [u8], at: usize, f: Figures) -> usize
     requires { ⌜ at + 146 ≤ length (now out) ⌝ }
     ensures { λ end. ⌜ filled end (now (out .exit)) ≡ laid (now (out .entry)) at (figuresText f) ⌝ }
 {
-    let updates = put_named(out, at, b" updates ", f.updates as u64);
-    let forward = put_named(out, updates, b" forward ", f.forward);
-    let back = put_named(out, forward, b" back ", f.back);
-    let faults = put_named(out, back, b" faults ", f.faults as u64);
-    let largest = put_named(out, faults, b" largest ", f.largest as u64);
-    put_word(out, largest, b"\n")
+    let first = put_first(out, at, f);
+    put_last(out, first, f)
 }
 
 pub fn put_table(out: &mut [u8], position: u32, f: Figures) -> usize
