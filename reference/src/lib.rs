@@ -22,6 +22,7 @@
 //! | `listing` | the listing program's lines |
 //! | `report` | the lines of a whole report over the air |
 //! | `heard` | lines with what a tablet makes of a report, and of stamps |
+//! | `season` | Season figures from all the readers |
 //! | `reader` | all calls as one trait, and the reference behind it |
 //! | `world` | the buffers a caller lends, together |
 //! | `vectors` | test vectors kept as data, and their player |
@@ -49,6 +50,7 @@ pub mod reader;
 pub mod record;
 pub mod refusal;
 pub mod report;
+pub mod season;
 pub mod table;
 pub mod update;
 pub mod vectors;
