@@ -27,7 +27,8 @@
 //! | `world` | the buffers a caller lends, together |
 //! | `vectors` | test vectors kept as data, and their player |
 //! | `random` | adversarial call sequences over two readers |
-//! | `mutants` | readers wrong in one number, for the comparisons to notice |
+//! | `concatenation` | made concatenations of tables, and a season program compared on them |
+//! | `mutants` | readers wrong in one number, season programs wrong in one step |
 //! | `archive` | the proved archive as a reader, behind a program |
 
 #![forbid(unsafe_code)]
@@ -36,6 +37,7 @@ pub mod access;
 pub mod archive;
 pub mod carry;
 pub mod clock;
+pub mod concatenation;
 pub mod heard;
 pub mod image;
 pub mod joining;

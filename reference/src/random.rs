@@ -218,7 +218,7 @@ fn first_difference(a: &World, b: &World) -> String {
 
 /// Leaves out ever smaller runs of steps, at last single ones, as long as the rest still shows
 /// a difference.
-pub fn shortest<T: Clone>(mut steps: Vec<T>, differ: impl Fn(&[T]) -> bool) -> Vec<T> {
+pub fn shortest<T: Clone>(mut steps: Vec<T>, mut differ: impl FnMut(&[T]) -> bool) -> Vec<T> {
     let mut run = steps.len();
     while run > 0 {
         let mut dropped = false;

@@ -1,5 +1,7 @@
-//! The season's figures, worked by hand from the paper's words.
+//! The season's figures, worked by hand from the paper's words; and the comparison of a program
+//! that prints them, tried on the reference's own.
 
+use reference::concatenation::Comparison;
 use reference::season::{Failure, PAPER};
 use std::io::{self, ErrorKind, Read};
 
@@ -202,4 +204,22 @@ fn input_that_cannot_be_read_is_no_end() {
 fn output_that_cannot_be_written_is_told() {
     let mut no_room: &mut [u8] = &mut [0; 10];
     assert_eq!(PAPER.run(&entry(&two_updates())[..], &mut no_room), Err(Failure::Output));
+}
+
+#[test]
+fn the_program_is_told_from_every_wrong_one() {
+    let mut comparison = Comparison::new(vec![env!("CARGO_BIN_EXE_season").to_string()]);
+    comparison.made_runs(1, 100).unwrap();
+    comparison.long_runs().unwrap();
+    let untold = comparison.untold();
+    assert!(untold.is_empty(), "not noticed: {untold:?}");
+}
+
+/// A program that reads and prints nothing: shown with no more entries than it takes.
+#[test]
+fn a_difference_is_shown_shortly() {
+    let shown = Comparison::new(vec!["true".to_string()]).made_runs(1, 1).unwrap_err();
+    let total = NO_TOTAL.trim_end();
+    let expected = format!("line 1: expected Some({total:?}), printed Some(\"\")");
+    assert_eq!(shown, format!("a difference on these 0 entries:\n{expected}"));
 }
