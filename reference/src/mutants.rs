@@ -58,6 +58,7 @@ pub const WRONG_SEASONS: &[Mutant<Season>] = &[
     Mutant { name: "seconds back added to those forward", spoil: |s| s.add = add_back_forward },
     Mutant { name: "largest of the moves forward only", spoil: |s| s.add = add_largest_forward },
     Mutant { name: "seconds in 32 bits", spoil: |s| s.add = add_in_32_bits },
+    Mutant { name: "the last table's largest in the totals", spoil: |s| s.add_table = add_last },
 ];
 
 /// The season program with that step spoiled.
@@ -107,4 +108,9 @@ fn add_in_32_bits(figures: &mut Figures, record: &Record) {
     figures.add(record);
     figures.forward = u64::from(figures.forward as u32);
     figures.back = u64::from(figures.back as u32);
+}
+
+fn add_last(total: &mut Figures, table: &Figures) {
+    total.add_table(table);
+    total.largest = table.largest;
 }

@@ -5,7 +5,7 @@
 //! permitted, input that stops inside a size or a table, or anything after the 65,535th table
 //! ends the run with its position. The totals come last, however the run ended.
 
-use crate::numbers::{Numbers, PAPER as PAPERS_NUMBERS};
+use crate::numbers::{self, Numbers};
 use crate::record::{self, Record};
 use crate::refusal::Refusal;
 use crate::table::{slots_of_size, Log};
@@ -44,7 +44,8 @@ impl Figures {
         self.largest = self.largest.max(base.abs_diff(old_base));
     }
 
-    fn add_table(&mut self, table: &Figures) {
+    /// What a table adds to the totals.
+    pub fn add_table(&mut self, table: &Figures) {
         self.updates += table.updates;
         self.forward += table.forward;
         self.back += table.back;
@@ -97,17 +98,19 @@ pub struct Season {
     pub refused_positions: u32,
     /// What a held record adds to its table's figures.
     pub add: fn(&mut Figures, &Record),
-    /// What a refused table adds to the totals.
+    /// What a table adds to the totals, and what a refused one does.
+    pub add_table: fn(&mut Figures, &Figures),
     pub add_refused: fn(&mut Figures, &[u8]),
     /// What a table is that the input stops inside.
     pub cut_table: Entry,
 }
 
 pub const PAPER: Season = Season {
-    numbers: PAPERS_NUMBERS,
+    numbers: numbers::PAPER,
     first_position: 1,
     refused_positions: 1,
     add: Figures::add,
+    add_table: Figures::add_table,
     add_refused: |_, _| {},
     cut_table: Entry::Unreadable,
 };
@@ -135,7 +138,7 @@ impl Season {
                 Entry::Table => match self.figures(&table) {
                     Ok(figures) => {
                         say(format_args!("{position} {figures}"))?;
-                        total.add_table(&figures);
+                        (self.add_table)(&mut total, &figures);
                         position += 1;
                     }
                     Err(refusal) => {
