@@ -22,11 +22,13 @@
 //! | `listing` | the listing program's lines |
 //! | `report` | the lines of a whole report over the air |
 //! | `heard` | lines with what a tablet makes of a report, and of stamps |
+//! | `season` | Season figures from all the readers |
 //! | `reader` | all calls as one trait, and the reference behind it |
 //! | `world` | the buffers a caller lends, together |
 //! | `vectors` | test vectors kept as data, and their player |
 //! | `random` | adversarial call sequences over two readers |
-//! | `mutants` | readers wrong in one number, for the comparisons to notice |
+//! | `concatenation` | made concatenations of tables, and a season program compared on them |
+//! | `mutants` | readers wrong in one number, season programs wrong in one step |
 //! | `archive` | the proved archive as a reader, behind a program |
 
 #![forbid(unsafe_code)]
@@ -35,6 +37,7 @@ pub mod access;
 pub mod archive;
 pub mod carry;
 pub mod clock;
+pub mod concatenation;
 pub mod heard;
 pub mod image;
 pub mod joining;
@@ -49,6 +52,7 @@ pub mod reader;
 pub mod record;
 pub mod refusal;
 pub mod report;
+pub mod season;
 pub mod table;
 pub mod update;
 pub mod vectors;

@@ -1,51 +1,57 @@
-//! Compares a reader with the reference, call by call.
+//! Compares a reader with the reference, call by call, or a season program run by run.
 //!
 //! `--archive COMMAND` names the program that plays calls on the proved archive (tests/c/pipe.c,
 //! with what it takes to run it, between spaces); without it the reference is compared with
 //! itself. `--calls N` (200,000 if not said), `--seed S` (1).
+//!
+//! `--season COMMAND` names a program that prints the figures of the tables on its standard input.
+//! `--runs N` (400), `--seed S` (1).
 
 #![forbid(unsafe_code)]
 
 use reference::archive::Archive;
-use reference::mutants::{spoiled, MUTANTS};
+use reference::concatenation::Comparison;
+use reference::mutants::{spoiled, MUTANTS, WRONG_SEASONS};
 use reference::random::{compare, differing};
 use reference::reader::{Reader, Reference};
 use reference::vectors::play_all;
 use std::process::ExitCode;
 
-const USAGE: &str = "usage: reference [--archive COMMAND] [--calls N] [--seed S]";
+const USAGE: &str = "usage: reference [--archive COMMAND] [--calls N] [--seed S]
+       reference --season COMMAND [--runs N] [--seed S]";
 /// How many mutants the archive is compared with, and how many calls each may take.
 const MUTANTS_TRIED: usize = 10;
 const MUTANT_CALLS: usize = 60_000;
 
+/// What the reference is compared with; the words of a command.
+enum Other {
+    Itself,
+    Archive(Vec<String>),
+    Season(Vec<String>),
+}
+
 struct Arguments {
-    archive: Option<Vec<String>>,
+    other: Other,
     calls: usize,
+    runs: usize,
     seed: u64,
 }
 
 fn main() -> ExitCode {
-    let Some(arguments) = arguments(std::env::args().skip(1)) else {
+    let Some(Arguments { other, calls, runs, seed }) = arguments(std::env::args().skip(1)) else {
         eprintln!("{USAGE}");
         return ExitCode::from(2);
     };
-    let Some(command) = arguments.archive else {
-        return status(no_difference("itself", &Reference::new(), arguments.calls, arguments.seed));
-    };
-    match Archive::new(command) {
-        Err(why) => {
-            eprintln!("the archive's program cannot be started: {why}");
-            ExitCode::from(2)
-        }
-        Ok(archive) => {
-            // All three, whatever the first says.
-            let passed = [
-                vectors_pass(&archive),
-                no_difference("the archive", &archive, arguments.calls, arguments.seed),
-                mutants_are_noticed(&archive, arguments.seed),
-            ];
-            status(passed == [true; 3])
-        }
+    match other {
+        Other::Itself => status(no_difference("itself", &Reference::new(), calls, seed)),
+        Other::Season(command) => status(season_passes(command, runs, seed)),
+        Other::Archive(command) => match Archive::new(command) {
+            Err(why) => {
+                eprintln!("the archive's program cannot be started: {why}");
+                ExitCode::from(2)
+            }
+            Ok(archive) => status(archive_passes(&archive, calls, seed)),
+        },
     }
 }
 
@@ -59,19 +65,33 @@ fn status(passed: bool) -> ExitCode {
 
 /// The arguments; nothing if they aren't understood.
 fn arguments(mut words: impl Iterator<Item = String>) -> Option<Arguments> {
-    let mut arguments = Arguments { archive: None, calls: 200_000, seed: 1 };
+    let mut arguments = Arguments { other: Other::Itself, calls: 200_000, runs: 400, seed: 1 };
     while let Some(name) = words.next() {
         let value = words.next()?;
         match name.as_str() {
-            "--archive" => {
-                arguments.archive = Some(value.split_whitespace().map(str::to_string).collect())
-            }
+            "--archive" => arguments.other = Other::Archive(command(&value)),
+            "--season" => arguments.other = Other::Season(command(&value)),
             "--calls" => arguments.calls = value.parse().ok()?,
+            "--runs" => arguments.runs = value.parse().ok()?,
             "--seed" => arguments.seed = value.parse().ok()?,
             _ => return None,
         }
     }
     Some(arguments)
+}
+
+fn command(words: &str) -> Vec<String> {
+    words.split_whitespace().map(str::to_string).collect()
+}
+
+/// All three parts, whatever the first says.
+fn archive_passes(archive: &Archive, calls: usize, seed: u64) -> bool {
+    let passed = [
+        vectors_pass(archive),
+        no_difference("the archive", archive, calls, seed),
+        mutants_are_noticed(archive, seed),
+    ];
+    passed == [true; 3]
 }
 
 fn vectors_pass(archive: &Archive) -> bool {
@@ -101,8 +121,33 @@ fn mutants_are_noticed(archive: &Archive, seed: u64) -> bool {
         .collect();
     let noticed = MUTANTS_TRIED - missed.len();
     println!("{noticed} of {MUTANTS_TRIED} mutants of the reference told from the archive");
-    for name in &missed {
+    none_missed(&missed)
+}
+
+fn none_missed(missed: &[&str]) -> bool {
+    for name in missed {
         println!("not noticed: {name}");
     }
     missed.is_empty()
+}
+
+/// The three parts again: made runs, those to the limit, and what the comparison is worth.
+fn season_passes(command: Vec<String>, runs: usize, seed: u64) -> bool {
+    let mut comparison = Comparison::new(command);
+    let made = comparison.made_runs(seed, runs);
+    let made =
+        told(made.map(|()| format!("{runs} concatenations from seed {seed}: no difference")));
+    let long = comparison.long_runs();
+    let long = told(long.map(|runs| format!("{runs} runs to 65,535 tables: no difference")));
+    let (untold, wrong) = (comparison.untold(), WRONG_SEASONS.len());
+    println!("{} of {wrong} wrong programs told from it", wrong - untold.len());
+    none_missed(&untold) && made && long
+}
+
+/// Prints what was found; whether that was no difference.
+fn told(found: Result<String, String>) -> bool {
+    let passed = found.is_ok();
+    let (Ok(words) | Err(words)) = found;
+    println!("{words}");
+    passed
 }

@@ -1,12 +1,16 @@
-//! Readers that are wrong in one number each: a comparison is worth what it notices of these.
+//! Readers that are wrong in one number each, and season programs that are wrong in one step: a
+//! comparison is worth what it notices of these.
 
 use crate::numbers::{Numbers, PAPER};
 use crate::reader::Reference;
+use crate::record::{self, Record};
+use crate::season::{self, Entry, Figures, Season};
+use crate::table::{HEADER_BYTES, SLOT_BYTES};
 
-/// A number of the paper, spoiled.
-pub struct Mutant {
+/// A number of the paper, spoiled; or one thing of something else.
+pub struct Mutant<T = Numbers> {
     pub name: &'static str,
-    spoil: fn(&mut Numbers),
+    spoil: fn(&mut T),
 }
 
 pub const MUTANTS: &[Mutant] = &[
@@ -38,4 +42,75 @@ pub fn spoiled(mutant: &Mutant) -> Reference {
     (mutant.spoil)(&mut numbers);
     assert_ne!(numbers, PAPER, "{}", mutant.name);
     Reference { numbers }
+}
+
+pub const WRONG_SEASONS: &[Mutant<Season>] = &[
+    Mutant { name: "positions from 0", spoil: |s| s.first_position = 0 },
+    Mutant { name: "no position for a refused table", spoil: |s| s.refused_positions = 0 },
+    Mutant { name: "a refused table's records in the totals", spoil: |s| s.add_refused = add_all },
+    Mutant { name: "65,536 tables", spoil: |s| s.numbers.most_tables = 65_536 },
+    Mutant { name: "65,534 tables", spoil: |s| s.numbers.most_tables = 65_534 },
+    Mutant { name: "size 65,552 permitted", spoil: |s| s.numbers.most_slots = 1_024 },
+    Mutant { name: "size 65,488 not permitted", spoil: |s| s.numbers.most_slots = 1_022 },
+    Mutant { name: "a cut table ends like a whole one", spoil: |s| s.cut_table = Entry::Nothing },
+    Mutant { name: "a fault's jump is a move", spoil: |s| s.add = add_faults_jump },
+    Mutant { name: "an update by 0 is none", spoil: |s| s.add = add_moves_only },
+    Mutant { name: "seconds back added to those forward", spoil: |s| s.add = add_back_forward },
+    Mutant { name: "largest of the moves forward only", spoil: |s| s.add = add_largest_forward },
+    Mutant { name: "seconds in 32 bits", spoil: |s| s.add = add_in_32_bits },
+    Mutant { name: "the last table's largest in the totals", spoil: |s| s.add_table = add_last },
+];
+
+/// The season program with that step spoiled.
+pub fn wrong_season(mutant: &Mutant<Season>) -> Season {
+    let mut season = season::PAPER;
+    (mutant.spoil)(&mut season);
+    season
+}
+
+/// Adds every slot that has a record, whatever else is wrong with the table.
+fn add_all(total: &mut Figures, table: &[u8]) {
+    for slot in table[HEADER_BYTES..].chunks_exact(SLOT_BYTES) {
+        let end = SLOT_BYTES.min(1 + usize::from(slot[0]));
+        if let Some(record) = record::read(&PAPER, &slot[1..end]) {
+            total.add(&record);
+        }
+    }
+}
+
+fn add_faults_jump(figures: &mut Figures, record: &Record) {
+    figures.add(record);
+    if let Record::Fault(fault) = record {
+        figures.add_move(fault.base, fault.old_base);
+    }
+}
+
+fn add_moves_only(figures: &mut Figures, record: &Record) {
+    if !matches!(record, Record::Update(update) if update.base == update.old_base) {
+        figures.add(record);
+    }
+}
+
+fn add_back_forward(figures: &mut Figures, record: &Record) {
+    figures.add(record);
+    figures.forward += std::mem::take(&mut figures.back);
+}
+
+fn add_largest_forward(figures: &mut Figures, record: &Record) {
+    let largest = figures.largest;
+    figures.add(record);
+    if matches!(record, Record::Update(update) if update.base < update.old_base) {
+        figures.largest = largest;
+    }
+}
+
+fn add_in_32_bits(figures: &mut Figures, record: &Record) {
+    figures.add(record);
+    figures.forward = u64::from(figures.forward as u32);
+    figures.back = u64::from(figures.back as u32);
+}
+
+fn add_last(total: &mut Figures, table: &Figures) {
+    total.add_table(table);
+    total.largest = table.largest;
 }

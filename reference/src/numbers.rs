@@ -37,6 +37,8 @@ pub struct Numbers {
     pub first_bit: u8,
     /// Header bit of a record's last segment.
     pub last_bit: u8,
+    /// A season's figures are of at most so many tables.
+    pub most_tables: u32,
 }
 
 pub const PAPER: Numbers = Numbers {
@@ -60,6 +62,7 @@ pub const PAPER: Numbers = Numbers {
     counters: 64,
     first_bit: 0x01,
     last_bit: 0x02,
+    most_tables: 65_535,
 };
 
 impl Numbers {

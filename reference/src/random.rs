@@ -108,7 +108,7 @@ pub fn compare(a: &dyn Reader, b: &dyn Reader, seed: u64, calls: usize) -> Resul
     let Some(steps) = differing(a, b, seed, calls) else {
         return Ok(());
     };
-    let steps = shortest(a, b, steps);
+    let steps = shortest(steps, |fewer| differs(a, b, fewer).is_some());
     let difference = differs(a, b, &steps).unwrap_or_default();
     Err(Mismatch { steps, difference })
 }
@@ -218,7 +218,7 @@ fn first_difference(a: &World, b: &World) -> String {
 
 /// Leaves out ever smaller runs of steps, at last single ones, as long as the rest still shows
 /// a difference.
-fn shortest(a: &dyn Reader, b: &dyn Reader, mut steps: Vec<Step>) -> Vec<Step> {
+pub fn shortest<T: Clone>(mut steps: Vec<T>, mut differ: impl FnMut(&[T]) -> bool) -> Vec<T> {
     let mut run = steps.len();
     while run > 0 {
         let mut dropped = false;
@@ -227,7 +227,7 @@ fn shortest(a: &dyn Reader, b: &dyn Reader, mut steps: Vec<Step>) -> Vec<Step> {
             let start = end.saturating_sub(run);
             let mut fewer = steps[..start].to_vec();
             fewer.extend_from_slice(&steps[end..]);
-            if differs(a, b, &fewer).is_some() {
+            if differ(&fewer) {
                 steps = fewer;
                 dropped = true;
             }
@@ -237,6 +237,31 @@ fn shortest(a: &dyn Reader, b: &dyn Reader, mut steps: Vec<Step>) -> Vec<Step> {
         run = if run == 1 && dropped { 1 } else { run / 2 };
     }
     steps
+}
+
+/// A number of slots, the largest among them.
+pub fn some_slots(random: &mut Random) -> usize {
+    match random.below(24) {
+        0 => PAPER.most_slots,
+        1 => 40,
+        2..=7 => 1,
+        8..=13 => 2,
+        14..=20 => 3,
+        _ => 5,
+    }
+}
+
+/// A sound table of so many slots: empty or full, wrapped or not, with numbers that roll over.
+pub fn some_plan(random: &mut Random, slots: usize) -> Plan {
+    let held = random.pick(&[0, 1, slots / 2, slots.saturating_sub(1), slots, slots]);
+    let next = match random.below(4) {
+        0 => held as u16,
+        1 => random.below(8) as u16,
+        2 => 65_535 - random.below(4) as u16,
+        _ => random.number() as u16,
+    };
+    let oldest = random.below(slots);
+    Plan { slots, held, oldest, next, seed: random.number() }
 }
 
 /// A sound table with records of both kinds.
@@ -306,6 +331,64 @@ const STATUS_EDGES: [u16; 12] = [
 ];
 const SENT_EDGES: [u8; 9] = [0, 1, 18, 19, 20, 23, 24, 25, 255];
 
+/// Bytes to put into the table: of its header, of a slot (held or not), a whole slot.
+pub fn table_damage(random: &mut Random, table: &[u8]) -> Option<(usize, Vec<u8>)> {
+    let slots = table.len().checked_sub(HEADER_BYTES)? / SLOT_BYTES;
+    if slots == 0 {
+        return None;
+    }
+    let slot = HEADER_BYTES + SLOT_BYTES * likely_slot(random, table, slots);
+    Some(match random.below(8) {
+        0 => (random.below(HEADER_BYTES), vec![random.byte()]),
+        1 => header_number(random, table),
+        2 => (slot + random.below(SLOT_BYTES), vec![random.byte()]),
+        3 => (slot + random.pick(&[21, 24, 25, 26, 45, 46, 62, 63]), vec![1]),
+        4 => (slot, random.bytes(SLOT_BYTES)),
+        5 => {
+            let other = HEADER_BYTES + SLOT_BYTES * random.below(slots);
+            (slot, table[other..other + SLOT_BYTES].to_vec())
+        }
+        _ => record_field(random, slot, table[slot + 3]),
+    })
+}
+
+/// The oldest slot, the newest, or any.
+fn likely_slot(random: &mut Random, table: &[u8], slots: usize) -> usize {
+    let oldest = (u32_at(table, 4) as usize).saturating_sub(HEADER_BYTES) / SLOT_BYTES;
+    let held = usize::from(u16_at(table, 2));
+    match random.below(3) {
+        0 => oldest % slots,
+        1 => (oldest + held + slots - 1) % slots,
+        _ => random.below(slots),
+    }
+}
+
+/// N, H, the offset or the next number moved by a little.
+fn header_number(random: &mut Random, table: &[u8]) -> (usize, Vec<u8>) {
+    let at = random.pick(&[0, 2, 4, 8]);
+    let by = random.pick(&[1, u16::MAX, 64, 65_472, 2]);
+    (at, u16_at(table, at).wrapping_add(by).to_le_bytes().to_vec())
+}
+
+/// A field of a slot's record with a value at an edge of its range.
+fn record_field(random: &mut Random, slot: usize, kind: u8) -> (usize, Vec<u8>) {
+    let start = slot + 1;
+    let bases = if kind == record::TIME_UPDATE { 16 } else { 12 };
+    match random.below(11) {
+        0 => (slot, vec![random.pick(&[0, 16, 20, 23, 24, 25, 45, 46, 63, 64, 255])]),
+        1 => (start, random.bytes(2)),
+        2 => (start + 2, vec![random.pick(&[0, 1, 2, 3, 4, 255])]),
+        3 => (start + 3 + random.below(3), vec![random.pick(&[1, 8, 128])]),
+        4 => (start + 6, random.pick(&STATUS_EDGES).to_le_bytes().to_vec()),
+        5 => (start + 8, random.pick(&STATUS_EDGES).to_le_bytes().to_vec()),
+        6 => (start + bases, random.pick(&BASE_EDGES).to_le_bytes().to_vec()),
+        7 => (start + bases + 4, random.pick(&BASE_EDGES).to_le_bytes().to_vec()),
+        8 => (start + 12, vec![random.pick(&ZONE_EDGES)]),
+        9 => (start + 13, vec![random.pick(&DST_EDGES)]),
+        _ => (start + 14, vec![random.pick(&SOURCE_EDGES)]),
+    }
+}
+
 /// Makes the steps of one sequence.
 struct Maker {
     random: Random,
@@ -348,35 +431,16 @@ impl Maker {
     /// A reader just started, or one over a table that already holds records.
     fn set_up(&mut self) {
         self.refused_in_a_row = 0;
-        let slots = self.slots();
+        let slots = some_slots(&mut self.random);
         self.add(Step::Lend(Buffer::State, 32));
         self.add(Step::Lend(Buffer::Table, HEADER_BYTES + SLOT_BYTES * slots));
         self.add_call(Call::Start);
         if !self.random.one_in(3) {
-            let held = self.random.pick(&[0, 1, slots / 2, slots.saturating_sub(1), slots, slots]);
-            let next = match self.random.below(4) {
-                0 => held as u16,
-                1 => self.random.below(8) as u16,
-                2 => 65_535 - self.random.below(4) as u16,
-                _ => self.random.number() as u16,
-            };
-            let oldest = self.random.below(slots);
-            let seed = self.random.number();
-            self.add(Step::Table(Plan { slots, held, oldest, next, seed }));
+            let plan = some_plan(&mut self.random, slots);
+            self.add(Step::Table(plan));
         }
         self.add_call(Call::Switches(1, 1, 1));
         self.add(Step::Lend(Buffer::Output, 244));
-    }
-
-    fn slots(&mut self) -> usize {
-        match self.random.below(24) {
-            0 => 1_023,
-            1 => 40,
-            2..=7 => 1,
-            8..=13 => 2,
-            14..=20 => 3,
-            _ => 5,
-        }
     }
 
     /// One or more steps.
@@ -400,7 +464,7 @@ impl Maker {
     }
 
     fn damaged_table(&mut self, world: &World) {
-        let Some((at, bytes)) = self.table_damage(world) else {
+        let Some((at, bytes)) = table_damage(&mut self.random, &world.table) else {
             return self.ordinary(world);
         };
         let end = world.table.len().min(at + bytes.len());
@@ -408,65 +472,6 @@ impl Maker {
         self.add(Step::Bytes(Buffer::Table, at, bytes));
         self.some_calls(world);
         self.add(Step::Bytes(Buffer::Table, at, old));
-    }
-
-    /// Bytes to put into the table: of its header, of a slot (held or not), a whole slot.
-    fn table_damage(&mut self, world: &World) -> Option<(usize, Vec<u8>)> {
-        let table = &world.table;
-        let slots = table.len().checked_sub(HEADER_BYTES)? / SLOT_BYTES;
-        if slots == 0 {
-            return None;
-        }
-        let slot = HEADER_BYTES + SLOT_BYTES * self.likely_slot(table, slots);
-        Some(match self.random.below(8) {
-            0 => (self.random.below(HEADER_BYTES), vec![self.random.byte()]),
-            1 => self.header_number(table),
-            2 => (slot + self.random.below(SLOT_BYTES), vec![self.random.byte()]),
-            3 => (slot + self.random.pick(&[21, 24, 25, 26, 45, 46, 62, 63]), vec![1]),
-            4 => (slot, self.random.bytes(SLOT_BYTES)),
-            5 => {
-                let other = HEADER_BYTES + SLOT_BYTES * self.random.below(slots);
-                (slot, table[other..other + SLOT_BYTES].to_vec())
-            }
-            _ => self.record_field(slot, table[slot + 3]),
-        })
-    }
-
-    /// The oldest slot, the newest, or any.
-    fn likely_slot(&mut self, table: &[u8], slots: usize) -> usize {
-        let oldest = (u32_at(table, 4) as usize).saturating_sub(HEADER_BYTES) / SLOT_BYTES;
-        let held = usize::from(u16_at(table, 2));
-        match self.random.below(3) {
-            0 => oldest % slots,
-            1 => (oldest + held + slots - 1) % slots,
-            _ => self.random.below(slots),
-        }
-    }
-
-    /// N, H, the offset or the next number moved by a little.
-    fn header_number(&mut self, table: &[u8]) -> (usize, Vec<u8>) {
-        let at = self.random.pick(&[0, 2, 4, 8]);
-        let by = self.random.pick(&[1, u16::MAX, 64, 65_472, 2]);
-        (at, u16_at(table, at).wrapping_add(by).to_le_bytes().to_vec())
-    }
-
-    /// A field of a slot's record with a value at an edge of its range.
-    fn record_field(&mut self, slot: usize, kind: u8) -> (usize, Vec<u8>) {
-        let start = slot + 1;
-        let bases = if kind == record::TIME_UPDATE { 16 } else { 12 };
-        match self.random.below(11) {
-            0 => (slot, vec![self.random.pick(&[0, 16, 20, 23, 24, 25, 45, 46, 63, 64, 255])]),
-            1 => (start, self.random.bytes(2)),
-            2 => (start + 2, vec![self.random.pick(&[0, 1, 2, 3, 4, 255])]),
-            3 => (start + 3 + self.random.below(3), vec![self.random.pick(&[1, 8, 128])]),
-            4 => (start + 6, self.random.pick(&STATUS_EDGES).to_le_bytes().to_vec()),
-            5 => (start + 8, self.random.pick(&STATUS_EDGES).to_le_bytes().to_vec()),
-            6 => (start + bases, self.random.pick(&BASE_EDGES).to_le_bytes().to_vec()),
-            7 => (start + bases + 4, self.random.pick(&BASE_EDGES).to_le_bytes().to_vec()),
-            8 => (start + 12, vec![self.random.pick(&ZONE_EDGES)]),
-            9 => (start + 13, vec![self.random.pick(&DST_EDGES)]),
-            _ => (start + 14, vec![self.random.pick(&SOURCE_EDGES)]),
-        }
     }
 
     fn damaged_state(&mut self, world: &World) {
@@ -769,10 +774,10 @@ impl Maker {
         if slots == 0 || self.random.one_in(6) {
             return self.random.bytes(length);
         }
-        let at = HEADER_BYTES + SLOT_BYTES * self.likely_slot(&world.table, slots);
+        let at = HEADER_BYTES + SLOT_BYTES * likely_slot(&mut self.random, &world.table, slots);
         let mut slot = world.table[at..at + SLOT_BYTES].to_vec();
         if !self.random.one_in(4) {
-            let (at, bytes) = self.record_field(0, slot[3]);
+            let (at, bytes) = record_field(&mut self.random, 0, slot[3]);
             slot[at..at + bytes.len()].copy_from_slice(&bytes);
         }
         let end = (1 + usize::from(slot[0])).min(SLOT_BYTES);

@@ -4,6 +4,7 @@ use reference::heard::{carried, joined};
 use reference::listing::listing;
 use reference::reader::Reference;
 use reference::report::{report, ALL_RECORDS, COMBINED};
+use reference::season;
 use std::fs;
 use std::path::{Path, PathBuf};
 
@@ -78,5 +79,15 @@ fn carried_stamps_are_the_references() {
         let table = fs::read(path.with_extension("table")).unwrap();
         let stored = text(&path);
         assert_eq!(carried(&Reference::new(), &table, &stored), stored, "{}", path.display());
+    }
+}
+
+#[test]
+fn season_figures_are_the_references() {
+    for path in files(|kind| kind == "tables") {
+        let mut figures = Vec::new();
+        season::PAPER.run(fs::File::open(&path).unwrap(), &mut figures).unwrap();
+        let stored = text(&path.with_extension("figures"));
+        assert_eq!(String::from_utf8(figures).unwrap(), stored, "{}", path.display());
     }
 }
