@@ -121,7 +121,7 @@ extern "C" {
 #endif
 
 /* This header's version: see VERSION above. */
-#define DTS_VERSION_MAJOR 1
+#define DTS_VERSION_MAJOR 2
 #define DTS_VERSION_MINOR 0
 
 /* Sizes, in bytes. */
@@ -153,7 +153,7 @@ enum {
 /* dts_notify adds this to the number of bytes where they close the report. */
 enum { DTS_CLOSING = 256 };
 
-/* Refusal numbers; an answer below 0 is minus one of these. There is no 9, and none from 15 to 22. */
+/* Refusal numbers; an answer below 0 is minus one of these. There is no 9, and none from 14 to 22. */
 enum {
     DTS_REFUSED_TABLE = 1,        /* the log table is not sound */
     DTS_REFUSED_STATE = 2,        /* the state has another length, another encoding, or breaks a rule */
@@ -167,7 +167,6 @@ enum {
     DTS_REFUSED_RECORD = 11,      /* the bytes are not a well-formed record */
     DTS_REFUSED_NOT_HELD = 12,    /* a record logged after the stamp is no longer held */
     DTS_REFUSED_FAULT = 13,       /* a Time_Fault lies after the stamp */
-    DTS_REFUSED_TOO_LARGE = 14,   /* the carried stamp is outside 64 bits; no table leads there */
     DTS_REFUSED_NOT_NEXT = 23     /* the number of a record to be kept does not follow */
 };
 
@@ -433,7 +432,7 @@ int32_t dts_keep(uint8_t *table, size_t table_length, const uint8_t *record, siz
  * then; the table is the log now, or the tablet's own copy of it (dts_keep).
  * Answers 0 and sets *carried: the clock's present Base_Time minus *carried is the seconds that ran since,
  * if fewer than 65,536 records were logged since. It may be below 0. Refused, *carried is untouched.
- * Refuses: 1, 12, 13, 14.
+ * Refuses: 1, 12, 13.
  */
 int32_t dts_carry(uint32_t stamp, uint16_t q, const uint8_t *table, size_t table_length, int64_t *carried);
 

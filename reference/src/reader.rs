@@ -31,7 +31,7 @@ pub trait Reader {
     fn read(&self, bytes: &[u8], fields: &mut [u32; 11]) -> i32;
     /// Refuses 1, 11, 23.
     fn keep(&self, table: &mut [u8], bytes: &[u8]) -> i32;
-    /// Refuses 1, 12, 13, 14.
+    /// Refuses 1, 12, 13.
     fn carry(&self, stamp: u32, q: u16, table: &[u8], carried: &mut i64) -> i32;
     /// Refuses 1, 2, 3.
     fn device_time(&self, state: &[u8], table: &[u8], out: &mut [u8]) -> i32;

@@ -15,7 +15,6 @@ pub enum Refusal {
     NotARecord = 11,
     LaterRecordNotHeld = 12,
     FaultAmongThem = 13,
-    OutsideSigned64 = 14,
     // Not the paper's, but of the call that it leaves to us: keeping.
     DoesNotFollow = 23,
 }

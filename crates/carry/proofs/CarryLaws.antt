@@ -6,12 +6,11 @@ use mathlib.Core.Bool.{Bool, true, false}
 use mathlib.Core.List.{List, [], _∷_}
 use Prim.Native.Nat.{ℕ, suc, _+_, _-_, _*_, _≤_, _<_}
 use native.Mathlib.Omega.{arith}
-use borrow.Author.Tests.{leb-true, leb-false, le-leb, lt-leb, lt-ltb}
+use borrow.Author.Tests.{le-leb, lt-leb}
 use lib.Dec.{leb}
 use lib.ListN.{length, drop, length-drop}
 use lib.Seq.{drop-drop}
-use lib.IntN.{ℤ, pos, negsuc, _+ℤ_}
-use lib.Signed.{mag}
+use lib.IntN.{ℤ, pos, natAbs, _+ℤ_, +ℤ-assoc, +ℤ-idr}
 use mir.Syntax.{w64}
 use mir.Val.{SFits}
 use Rattle.octets.specs.Choice.{both, pick}
@@ -30,11 +29,11 @@ use Rattle.table.proofs.HeadLaws.{sound-head}
 use Rattle.table_write.proofs.HistoryLaws.{length-held}
 use Rattle.table_look.proofs.LookLaws.{none-left}
 use Rattle.table_look.proofs.KindLaws.{held-rules}
-use Rattle.carry.specs.Stamp.{laterOf, fits64, movedBy, carriedOver, carriedFrom, carryOf, carryingNumber, noFaultB}
-use Rattle.carry.specs.Theorems.{AnswersWhen, NeverPastRange, Unchanged}
+use Rattle.carry.specs.Stamp.{laterOf, movedBy, carriedOver, carriedFrom, carryOf, carryingNumber, noFaultB}
+use Rattle.carry.specs.Theorems.{AnswersWhen, movedOver, Times32, none, updated, failed, Bounded, Unchanged}
 use Rattle.carry.specs.declared.stamp.Carried.{Carried}
 use Rattle.carry.specs.declared.stamp.Carried.the-variants.{To, TableNotSound, NotHeld, FaultAmong}
-use Rattle.carry.proofs.IntLaws.{mag-difference, mag-sum}
+use Rattle.carry.proofs.IntLaws.{size-difference, size-sum, fits}
 
 -- the first record and the rest
 first-fault : (z : ℤ) (r : Record) (rest : List Record) → typeOf r ≡ 0 → carriedOver z (r ∷ rest) ≡ FaultAmong
@@ -54,16 +53,13 @@ module _ (z : ℤ) (l rest : List Record) (r : Record) (e : l ≡ r ∷ rest) wh
   pub over-update : (typeOf r ≡ 0 → ⊥) → carriedOver z l ≡ carriedOver (z +ℤ movedBy r) rest
   over-update h = ap (carriedOver z) e ∙ first-update z r rest h
 
-fits : (z : ℤ) → mag z < 9223372036854775808 → fits64 z ≡ true
-fits (pos n) h = lt-ltb _ _ h
-fits (negsuc n) h = lt-ltb _ _ h
-
-pub over-done : (z : ℤ) (l : List Record) → l ≡ [] → mag z < 9223372036854775808 → carriedOver z l ≡ To z
+-- no record is left
+pub over-none : (t : List ℕ) (k : ℕ) (z : ℤ) → count t ≤ k → carriedOver z (drop k (held t)) ≡ To z
 unfolding carriedOver
-over-done z l e h = rw (e, fits z h)
+over-none t k z h = rw (none-left t k h)
 
--- a record within the rules moves a stamp by less than 2^32
-times-small : (u : Update) → updateB u ≡ true → (u .base ≤ 4294967295) × (u .oldbase ≤ 4294967295)
+-- the held records of a sound table are within the rules, so their times are of 32 bits
+times-small : (u : Update) → updateB u ≡ true → (u .base < 4294967296) × (u .oldbase < 4294967296)
 times-small u h =
     let a = both-reads (both (statusB (u .status)) (statusB (u .oldstatus))) _ (sym (update-rules u) ∙ h) in
     let b = both-reads (both (zoneB (u .zone)) (dstB (u .dst))) _ (a .1) in
@@ -73,41 +69,32 @@ times-small u h =
     let y = base-reads (u .oldbase) (e .1) in
     (omega arith, omega arith)
 
-pub moved-small : (r : Record) → recordB r ≡ true → mag (movedBy r) ≤ 4294967295
-unfolding recordB movedBy
-moved-small (TimeUpdate u) h = let b = times-small u h in mag-difference (u .base) (u .oldbase) 4294967295 (b .0) (b .1)
-moved-small (TimeFault f) h = omega arith
+all-times : (l : List Record) → ((k : ℕ) (r : Record) (rest : List Record) → drop k l ≡ r ∷ rest → recordB r ≡ true) → Times32 l
+unfolding recordB
+all-times [] right = none
+all-times (TimeUpdate u ∷ l) right = let b = times-small u (right 0 (TimeUpdate u) l refl) in updated (b .0) (b .1) (all-times l (λ k. right (suc k)))
+all-times (TimeFault f ∷ l) right = failed (all-times l (λ k. right (suc k)))
+
+held-times : (t : List ℕ) (n : ℕ) → soundB t ≡ true → Times32 (drop n (held t))
+held-times t n sd = all-times _ (λ k r rest e. held-rules t (n + k) r rest sd (sym (drop-drop k n (held t)) ∙ e))
+
+-- such a record moves a stamp by less than 2^32
+moved-small : (r : Record) (l : List Record) → Times32 (r ∷ l) → natAbs (movedBy r) ≤ 4294967295
+unfolding movedBy
+moved-small (TimeUpdate u) l (updated a b h) = size-difference (u .base) (u .oldbase) 4294967295 (omega arith) (omega arith)
+moved-small (TimeFault f) l (failed h) = omega arith
 
 -- a sum over n records, each of which moves it by less than 2^32, from a stamp of 32 bits on
 abbrev pub Within : ℕ → ℤ → Type 0
-Within n z = mag z < 4294967296 * (n + 1)
-
-pub one-more : (n : ℕ) (z d : ℤ) → Within n z → mag d ≤ 4294967295 → Within (n + 1) (z +ℤ d)
-one-more n z d h k = omega (arith, mag-sum z d)
-
--- every record of a list obeys the rules
-abbrev AllRight : List Record → Type 0
-AllRight l = (k : ℕ) (r : Record) (rest : List Record) → drop k l ≡ r ∷ rest → recordB r ≡ true
-
--- so at most 1,023 of them never take it out of signed 64 bits
-over-answers : (l : List Record) (n : ℕ) (z : ℤ) → AllRight l → n + length l ≤ 1023 → Within n z → carryingNumber (carriedOver z l) ≡ pick (noFaultB l) 0 13
-unfolding carriedOver movedBy carryingNumber noFaultB
-over-answers [] n z right h w = ap carryingNumber (over-done z [] refl (omega arith))
-over-answers (TimeUpdate u ∷ l) n z right h w =
-    let d = moved-small (TimeUpdate u) (right 0 (TimeUpdate u) l refl) in
-    over-answers l (n + 1) (z +ℤ movedBy (TimeUpdate u)) (λ k. right (suc k)) (omega arith) (one-more n z _ w d)
-over-answers (TimeFault f ∷ l) n z right h w = refl
+Within n z = natAbs z ≤ 4294967295 * (n + 1)
 
 -- the record at an age of a sound table: what it makes of a sum
-module _ (t : List ℕ) (k : ℕ) (z : ℤ) (r : Record) (e : drop k (held t) ≡ r ∷ drop (k + 1) (held t)) where
-  pub turn-within : soundB t ≡ true → Within k z → Within (k + 1) (z +ℤ movedBy r)
-  turn-within sd w = one-more k z (movedBy r) w (moved-small r (held-rules t k r _ sd e))
+module _ (t : List ℕ) (k : ℕ) (z : ℤ) (r : Record) (e : drop k (held t) ≡ r ∷ drop (k + 1) (held t)) (sd : soundB t ≡ true) (w : Within k z) where
+  pub turn-within : Within (k + 1) (z +ℤ movedBy r)
+  turn-within = omega (arith, size-sum z (movedBy r), moved-small r _ (rw e at (held-times t k sd)))
 
-  pub turn-fits : soundB t ≡ true → k < count t → Within k z → SFits w64 (z +ℤ movedBy r)
-  turn-fits sd h w = let d = sound-head t sd in record { sfits = omega (arith, turn-within sd w) }
-
-pub sum-done : (t : List ℕ) (k : ℕ) (z : ℤ) → soundB t ≡ true → k ≡ count t → Within k z → carriedOver z (drop k (held t)) ≡ To z
-sum-done t k z sd h w = let d = sound-head t sd in over-done z (drop k (held t)) (none-left t k (omega arith)) (omega arith)
+  pub turn-fits : k < count t → SFits w64 (z +ℤ movedBy r)
+  turn-fits h = let d = sound-head t sd in fits w64 (z +ℤ movedBy r) (omega (arith, turn-within))
 
 -- the ways out of carrying
 module _ (stamp q : ℕ) (t : List ℕ) where
@@ -128,42 +115,67 @@ module _ (stamp q : ℕ) (t : List ℕ) where
       let from : count t - laterOf (next t) q ≡ n = omega arith in
       simp (sd, length-held t, le-leb _ _ m, from, e)
 
+-- a pass over records answers 0 or 13
+over-answers : (l : List Record) (z : ℤ) → carryingNumber (carriedOver z l) ≡ pick (noFaultB l) 0 13
+unfolding carriedOver carryingNumber noFaultB
+over-answers [] z = refl
+over-answers (TimeUpdate u ∷ l) z = over-answers l _
+over-answers (TimeFault f ∷ l) z = refl
+
 pub answers : AnswersWhen
-unfolding carryingNumber
-answers stamp q t h = go (soundB t) (leb (laterOf (next t) q) (count t)) refl refl
+unfolding carryOf carriedFrom carryingNumber
+answers stamp q t = rw (length-held t) (go (soundB t) (leb (laterOf (next t) q) (count t)) (drop (count t - laterOf (next t) q) (held t)))
   where
-    right : (n : ℕ) → soundB t ≡ true → AllRight (drop n (held t))
-    right n sd k r rest e = held-rules t (n + k) r rest sd (sym (drop-drop k n (held t)) ∙ e)
-
-    go : (a b : Bool) → soundB t ≡ a → leb (laterOf (next t) q) (count t) ≡ b
-        → carryingNumber (carryOf stamp q t) ≡ pick a (pick b (pick (noFaultB (newest (laterOf (next t) q) (held t))) 0 13) 12) 1
-    go false b sd m = ap carryingNumber (carry-unsound stamp q t sd)
-    go true false sd m = ap carryingNumber (carry-not-held stamp q t sd (leb-false _ _ m))
-    go true true sd m =
-        let x = leb-true (laterOf (next t) q) (count t) m in
-        let e = length-held t in
-        let n = length (held t) - laterOf (next t) q in
-        let d = sound-head t sd in
-        let l : length (drop n (held t)) ≤ 1023 = omega (arith, length-drop n (held t)) in
-        ap carryingNumber (sym (carry-over stamp q t _ n refl sd (omega arith)))
-        ∙ over-answers (drop n (held t)) 0 (pos stamp) (right n sd) (omega arith) (omega arith)
-
--- none of these numbers is 14
-below-14 : (a b d : Bool) → pick a (pick b (pick d 0 13) 12) 1 < 14
-below-14 true true true = omega arith
-below-14 true true false = omega arith
-below-14 true false d = omega arith
-below-14 false b d = omega arith
-
-pub never-past-range : NeverPastRange
-unfolding carryingNumber
-never-past-range stamp q t h e =
-    let m = laterOf (next t) q in
-    let n = ap carryingNumber e in
-    absurd (omega (arith, answers stamp q t h, below-14 (soundB t) (leb m (count t)) (noFaultB (newest m (held t)))))
+    go : (a b : Bool) (l : List Record)
+        → carryingNumber (pick a (pick b (carriedOver (pos stamp) l) NotHeld) TableNotSound) ≡ pick a (pick b (pick (noFaultB l) 0 13) 12) 1
+    go false b l = refl
+    go true false l = refl
+    go true true l = over-answers l (pos stamp)
 
 pub unchanged : Unchanged
 unfolding laterOf
-unchanged stamp q t h sd e =
-    let d = over-done (pos stamp) (drop (count t) (held t)) (none-left t (count t) (omega arith)) (omega arith) in
-    sym (carry-over stamp q t (To (pos stamp)) (count t) (sym d) sd (omega arith))
+unchanged stamp q t sd e =
+    sym (carry-over stamp q t (To (pos stamp)) (count t) (sym (over-none t (count t) (pos stamp) (omega arith))) sd (omega arith))
+
+-- a carried stamp is the stamp and the sum of what moved it
+over-sum : (l : List Record) (y z : ℤ) → carriedOver y l ≡ To z → z ≡ y +ℤ movedOver l
+unfolding carriedOver movedOver
+over-sum [] y z h = let e : z ≡ y = cc in e ∙ sym (+ℤ-idr y)
+over-sum (TimeUpdate u ∷ l) y z h = over-sum l _ z h ∙ +ℤ-assoc y (movedBy (TimeUpdate u)) (movedOver l)
+over-sum (TimeFault f ∷ l) y z h = let n : _≡_ {A = ℕ} 0 1 = cc in absurd (omega arith)
+
+carried-over : (stamp q : ℕ) (t : List ℕ) (z : ℤ) → carryOf stamp q t ≡ To z
+    → (soundB t ≡ true) × (carriedOver (pos stamp) (newest (laterOf (next t) q) (held t)) ≡ To z)
+unfolding carryOf carriedFrom
+carried-over stamp q t z = go (soundB t) (leb (laterOf (next t) q) (length (held t))) _
+  where
+    go : (a b : Bool) (c : Carried) → pick a (pick b c NotHeld) TableNotSound ≡ To z → (a ≡ true) × (c ≡ To z)
+    go true true c h = (refl, h)
+    go true false c h = let n : _≡_ {A = ℕ} 0 1 = cc in absurd (omega arith)
+    go false b c h = let n : _≡_ {A = ℕ} 0 1 = cc in absurd (omega arith)
+
+sum-small : (l : List Record) → Times32 l → natAbs (movedOver l) ≤ 4294967295 * length l
+unfolding movedBy movedOver
+sum-small [] none = omega arith
+sum-small (TimeUpdate u ∷ l) (updated a b h) =
+    let r = TimeUpdate u in
+    omega (arith, size-sum (movedBy r) (movedOver l), moved-small r l (updated a b h), sum-small l h)
+sum-small (TimeFault f ∷ l) (failed h) = omega (arith, size-sum (pos 0) (movedOver l), sum-small l h)
+
+-- the stamp, and at most 1,023 such moves
+carried-size : (stamp q : ℕ) (t : List ℕ) (z : ℤ) → carryOf stamp q t ≡ To z → natAbs z ≤ stamp + 4294967295 * 1023
+carried-size stamp q t z e =
+    let c = carried-over stamp q t z e in
+    let d = sound-head t (c .0) in
+    let n = length (held t) - laterOf (next t) q in
+    let l = drop n (held t) in
+    rw (over-sum l (pos stamp) z (c .1))
+    (omega (arith, size-sum (pos stamp) (movedOver l), sum-small l (held-times t n (c .0)), length-drop n (held t), length-held t))
+
+pub bounded : Bounded
+bounded =
+    record {
+      sum-small = λ l few x. omega (arith, sum-small l x);
+      carried-small = λ stamp q t z h e. omega (arith, carried-size stamp q t z e);
+      carried-fits = λ stamp q t z h e. fits w64 z (omega (arith, carried-size stamp q t z e));
+    }

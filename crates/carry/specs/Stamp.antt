@@ -3,25 +3,20 @@
 use mathlib.Core.Bool.{Bool, true, false}
 use mathlib.Core.List.{List, [], _∷_}
 use Prim.Native.Nat.{ℕ, _+_, _-_, _%_}
-use lib.Dec.{leb, ltb}
+use lib.Dec.{leb}
 use lib.ListN.{length}
-use lib.IntN.{ℤ, pos, negsuc, _+ℤ_, _-ℤ_}
+use lib.IntN.{ℤ, pos, _+ℤ_, _-ℤ_}
 use Rattle.octets.specs.Choice.{pick}
 use Rattle.record.specs.declared.kinds.Record.{Record}
 use Rattle.record.specs.declared.kinds.Record.the-variants.{TimeUpdate, TimeFault}
 use Rattle.table.specs.Table.{next, held, soundB}
 use Rattle.table_write.specs.Append.{newest}
 use Rattle.carry.specs.declared.stamp.Carried.{Carried}
-use Rattle.carry.specs.declared.stamp.Carried.the-variants.{To, TableNotSound, NotHeld, FaultAmong, PastRange}
+use Rattle.carry.specs.declared.stamp.Carried.the-variants.{To, TableNotSound, NotHeld, FaultAmong}
 
 -- "m = (next - q) mod 65,536": how many records were logged after the stamp was noted
 unfoldable pub laterOf : ℕ → ℕ → ℕ
 laterOf next q = (next + 65536 - q) % 65536
-
--- "carrying: result outside signed 64 bits"
-abbrev pub fits64 : ℤ → Bool
-fits64 (pos n) = ltb n 9223372036854775808
-fits64 (negsuc n) = ltb n 9223372036854775808
 
 -- what a record adds by itself
 unfoldable pub movedBy : Record → ℤ
@@ -36,7 +31,7 @@ noFaultB (TimeFault f ∷ l) = false
 
 -- "each Time_Update adds received minus old; any other type adds nothing by itself, and a Time_Fault gives 13. The result is signed."
 unfoldable pub carriedOver : ℤ → List Record → Carried
-carriedOver z [] = pick (fits64 z) (To z) PastRange
+carriedOver z [] = To z
 carriedOver z (TimeUpdate u ∷ l) = carriedOver (z +ℤ movedBy (TimeUpdate u)) l
 carriedOver z (TimeFault f ∷ l) = FaultAmong
 
@@ -50,10 +45,9 @@ carriedFrom stamp q held next =
 unfoldable pub carryOf : ℕ → ℕ → List ℕ → Carried
 carryOf stamp q t = pick (soundB t) (carriedFrom stamp q (held t) (next t)) TableNotSound
 
--- "0 means done"; rows 1, 12, 13, 14
+-- "0 means done"; rows 1, 12, 13
 unfoldable pub carryingNumber : Carried → ℕ
 carryingNumber (To z) = 0
 carryingNumber TableNotSound = 1
 carryingNumber NotHeld = 12
 carryingNumber FaultAmong = 13
-carryingNumber PastRange = 14

@@ -23,7 +23,6 @@ pub enum Carried {
     TableNotSound,
     NotHeld,
     FaultAmong,
-    PastRange,
 }
 
 // Signed, since a clock may be set back.
@@ -76,8 +75,8 @@ fn carried_over(stamp: u32, t: &[u8], from: usize) -> Carried
     Carried::To(sum)
 }
 
-// Carrying (document 01, "Carrying a stamp"). Refuses: 1, 12, 13. Never 14: a table holds at most 1,023
-// records, and that many differences of 32 bits stay within 64.
+// Carrying (document 01, "Carrying a stamp"). Refuses: 1, 12, 13. The result always fits: a table holds at most
+// 1,023 records, and that many differences of 32-bit values stay within 64 bits (`theorems::bounded`).
 pub fn carry(stamp: u32, q: u16, t: &[u8]) -> Carried
     ensures { λ r. ⌜ r ≡ carryOf stamp q (now (t .entry)) ⌝ }
 {
@@ -101,6 +100,5 @@ pub fn carrying_number(c: Carried) -> u8
         Carried::TableNotSound => 1,
         Carried::NotHeld => 12,
         Carried::FaultAmong => 13,
-        Carried::PastRange => 14,
     }
 }

@@ -1,5 +1,5 @@
 // The server's answers, and the paper's numbers for them (document 01, "Refusal numbers, tested in this
-// order"). Numbers 10 to 14 are the tablet's.
+// order"). Numbers 10 to 13 and 23 are the tablet's.
 ghost use mathlib.Core.Path.{_≡_};
 ghost use Rattle.clock.specs.Answers.{numberOf, attErrorOf};
 

@@ -16,7 +16,7 @@ use Rattle.text.proofs.TextLaws.{fitted-short, fitted-then}
 use Rattle.text.proofs.DecimalLaws.{decimal-short, decimal-short-any}
 use Rattle.carry.specs.Stamp.{carryingNumber}
 use Rattle.carry.specs.declared.stamp.Carried.{Carried}
-use Rattle.carry.specs.declared.stamp.Carried.the-variants.{To, TableNotSound, NotHeld, FaultAmong, PastRange}
+use Rattle.carry.specs.declared.stamp.Carried.the-variants.{To, TableNotSound, NotHeld, FaultAmong}
 use Rattle.day_sheet.specs.Sheet.{twoDigits, timeOfDay, notedOf, signedOf, outcomeOf, carriedOf, shownText, gap, apartText, pairText, tagLine}
 use Rattle.day_sheet.specs.declared.sheet.Shown.{Shown}
 use Rattle.day_sheet.specs.declared.sheet.Shown.the-variants.{Nothing, At, Before, Refused}
@@ -45,7 +45,6 @@ refused-is (To z) h e = absurd (h z refl)
 refused-is TableNotSound h e = ap Refused e
 refused-is NotHeld h e = ap Refused e
 refused-is FaultAmong h e = ap Refused e
-refused-is PastRange h e = ap Refused e
 
 -- one of two that is no time leaves `-`
 pub first-no-time : (x y : Shown) → ((n : ℕ) → x ≡ At n → ⊥) → 45 ∷ [] ≡ apartText x y
@@ -102,7 +101,6 @@ outcome-short (To z) = omega (arith, signed-short z)
 outcome-short TableNotSound = omega arith
 outcome-short NotHeld = omega arith
 outcome-short FaultAmong = omega arith
-outcome-short PastRange = omega arith
 
 carried-short : (s : Sight) → length (shownText (carriedOf s)) ≤ 10
 unfolding carriedOf shownText

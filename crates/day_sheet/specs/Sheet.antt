@@ -6,7 +6,7 @@ use lib.IntN.{ℤ, pos, negsuc}
 use Rattle.text.specs.Line.{decimal}
 use Rattle.carry.specs.Stamp.{carryingNumber}
 use Rattle.carry.specs.declared.stamp.Carried.{Carried}
-use Rattle.carry.specs.declared.stamp.Carried.the-variants.{To, TableNotSound, NotHeld, FaultAmong, PastRange}
+use Rattle.carry.specs.declared.stamp.Carried.the-variants.{To, TableNotSound, NotHeld, FaultAmong}
 use Rattle.day_sheet.specs.declared.sheet.Shown.{Shown}
 use Rattle.day_sheet.specs.declared.sheet.Shown.the-variants.{Nothing, At, Before, Refused}
 use Rattle.day_sheet.specs.declared.sheet.Sight.{Sight}
@@ -34,7 +34,6 @@ outcomeOf (To z) = signedOf z
 outcomeOf TableNotSound = Refused (carryingNumber TableNotSound)
 outcomeOf NotHeld = Refused (carryingNumber NotHeld)
 outcomeOf FaultAmong = Refused (carryingNumber FaultAmong)
-outcomeOf PastRange = Refused (carryingNumber PastRange)
 
 unfoldable pub carriedOf : Sight → Shown
 carriedOf Missed = Nothing

@@ -31,7 +31,7 @@ pub extern "C" fn dts_keep(table: &mut [u8], bytes: &[u8]) -> i32
     keep_at(table, bytes)
 }
 
-// A stamp carried over the records logged after it. Refuses: 1, 12, 13; never 14 (`carry::stamp::carry`).
+// A stamp carried over the records logged after it. Refuses: 1, 12, 13.
 #[no_mangle]
 pub extern "C" fn dts_carry(stamp: u32, q: u16, table: &[u8], carried: &mut i64) -> i32
     ensures { λ r. ⌜ carrying r (now (carried .exit)) ≡ carryAt stamp q (now (table .entry)) (now (carried .entry)) ⌝ }

@@ -13,7 +13,7 @@ use Rattle.clock.specs.Answers.{numberOf}
 use Rattle.clock.specs.declared.answers.Answer.{Answer}
 use Rattle.clock.specs.declared.state.Clock.{Clock}
 use Rattle.rows.specs.Reply.{doneB}
-use Rattle.carry.proofs.IntLaws.{mag-difference}
+use Rattle.carry.proofs.IntLaws.{size-difference, fits}
 use Rattle.state_bytes.specs.State.{imageOf}
 use Rattle.state_bytes.specs.Results.{refusal}
 use Rattle.server_bytes.specs.Results.{resultOf, stateAfter, ran, settledOf}
@@ -26,7 +26,7 @@ module _ (n : ℕ) (h : n < 256) where
   pub refusal-fits : SFits w32 (pos 0 -ℤ toZ w32 n)
   refusal-fits =
       rw (toZ-pos w32 {n = n} (omega arith))
-      (record { sfits = omega (arith, mag-difference 0 n 255 (omega arith) (omega arith)) })
+      (fits w32 (pos 0 -ℤ pos n) (omega (arith, size-difference 0 n 255 (omega arith) (omega arith))))
 
 module _ (a : Answer) (n : ℕ) where
   pub result-refused : doneB a ≡ false → resultOf a n ≡ refusal (numberOf a)

@@ -20,7 +20,7 @@ use Rattle.keep.specs.Keep.{keepOf, keepingNumber}
 use Rattle.carry.specs.Stamp.{carryOf}
 use Rattle.carry.specs.Stamp as carry
 use Rattle.carry.specs.declared.stamp.Carried.{Carried}
-use Rattle.carry.specs.declared.stamp.Carried.the-variants.{To, TableNotSound, NotHeld, FaultAmong, PastRange}
+use Rattle.carry.specs.declared.stamp.Carried.the-variants.{To, TableNotSound, NotHeld, FaultAmong}
 use Rattle.state_bytes.specs.JoiningState.{joiningBytes, joiningImage, joiningIn}
 use Rattle.state_bytes.specs.Results.{refusal}
 
@@ -96,7 +96,6 @@ stampAfter y (To z) = z
 stampAfter y TableNotSound = y
 stampAfter y NotHeld = y
 stampAfter y FaultAmong = y
-stampAfter y PastRange = y
 
 unfoldable pub carryAt : ℕ → ℕ → List ℕ → ℤ → CarriedTo
 carryAt stamp q t y = carrying (refusal (carry.carryingNumber (carryOf stamp q t))) (stampAfter y (carryOf stamp q t))

@@ -102,7 +102,7 @@ pub fn keep_at(table: &mut [u8], bytes: &[u8]) -> i32
     }
 }
 
-// A stamp carried over the records logged after it. Refuses: 1, 12, 13; never 14 (`carry::stamp::carry`).
+// A stamp carried over the records logged after it. Refuses: 1, 12, 13.
 pub fn carry_at(stamp: u32, q: u16, table: &[u8], carried: &mut i64) -> i32
     ensures { λ r. ⌜ carrying r (now (carried .exit)) ≡ carryAt stamp q (now (table .entry)) (now (carried .entry)) ⌝ }
 {
@@ -114,6 +114,5 @@ pub fn carry_at(stamp: u32, q: u16, table: &[u8], carried: &mut i64) -> i32
         Carried::TableNotSound => -1,
         Carried::NotHeld => -12,
         Carried::FaultAmong => -13,
-        Carried::PastRange => -14,
     }
 }

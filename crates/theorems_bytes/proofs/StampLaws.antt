@@ -38,7 +38,7 @@ use Rattle.characteristics.proofs.ValueLaws.{device-time-done}
 use Rattle.carry.specs.Stamp.{carryOf, noFaultB}
 use Rattle.carry.specs.Stamp as carry
 use Rattle.carry.specs.declared.stamp.Carried.{Carried}
-use Rattle.carry.specs.declared.stamp.Carried.the-variants.{To, NotHeld, FaultAmong, PastRange}
+use Rattle.carry.specs.declared.stamp.Carried.the-variants.{To, NotHeld, FaultAmong}
 use Rattle.carry.specs.declared.stamp.Carried.the-variants as carrieds
 use Rattle.state_bytes.specs.State.{stateBytes, imageOf, clockOf}
 use Rattle.state_bytes.proofs.RoundTrip.{state-images}
@@ -233,7 +233,6 @@ zero-handed (To z) = refl
 zero-handed carrieds.TableNotSound = refl
 zero-handed NotHeld = refl
 zero-handed FaultAmong = refl
-zero-handed PastRange = refl
 
 -- a result 0 is a stamp that was carried
 carried-to : (y : ℤ) (r : Carried) → refusal (carry.carryingNumber r) ≡ pos 0 → r ≡ To (stampAfter y r)
@@ -242,7 +241,6 @@ carried-to y (To z) h = refl
 carried-to y carrieds.TableNotSound h = absurd (pos-ne-negsuc 0 _ (sym h))
 carried-to y NotHeld h = absurd (pos-ne-negsuc 0 _ (sym h))
 carried-to y FaultAmong h = absurd (pos-ne-negsuc 0 _ (sym h))
-carried-to y PastRange h = absurd (pos-ne-negsuc 0 _ (sym h))
 
 -- the test by the records' bytes is that by value, and one of the counts
 module _ (v : World) (after : List ByteCall) (f : Fit v) where

@@ -41,7 +41,7 @@ use Rattle.keep.specs.declared.keep.Kept.the-variants as kepts
 use Rattle.carry.specs.Stamp.{carryOf}
 use Rattle.carry.specs.Stamp as carry
 use Rattle.carry.specs.declared.stamp.Carried.{Carried}
-use Rattle.carry.specs.declared.stamp.Carried.the-variants.{To, NotHeld, FaultAmong, PastRange}
+use Rattle.carry.specs.declared.stamp.Carried.the-variants.{To, NotHeld, FaultAmong}
 use Rattle.carry.specs.declared.stamp.Carried.the-variants as carrieds
 use Rattle.state_bytes.specs.State.{clockOf}
 use Rattle.state_bytes.specs.JoiningState.{joiningBytes, joiningIn}
@@ -96,7 +96,6 @@ carry-length (To z) n h = pos-is 0 n h
 carry-length carrieds.TableNotSound n h = absurd (pos-ne-negsuc n _ (sym h))
 carry-length NotHeld n h = absurd (pos-ne-negsuc n _ (sym h))
 carry-length FaultAmong n h = absurd (pos-ne-negsuc n _ (sym h))
-carry-length PastRange n h = absurd (pos-ne-negsuc n _ (sym h))
 
 -- a reply by its result
 fault-length : (c : Clock) (t o : List ℕ) (n : ℕ) → resultOf (faultOf c t o .reply .answer) (faultOf c t o .reply .len) ≡ pos n

@@ -47,7 +47,7 @@ use Rattle.keep.proofs.KeepLaws as keep
 use Rattle.carry.specs.Stamp.{carryOf}
 use Rattle.carry.specs.Stamp as carry
 use Rattle.carry.specs.declared.stamp.Carried.{Carried}
-use Rattle.carry.specs.declared.stamp.Carried.the-variants.{To, NotHeld, FaultAmong, PastRange}
+use Rattle.carry.specs.declared.stamp.Carried.the-variants.{To, NotHeld, FaultAmong}
 use Rattle.carry.specs.declared.stamp.Carried.the-variants as carrieds
 use Rattle.state_bytes.specs.State.{imageOf, clockOf}
 use Rattle.state_bytes.specs.JoiningState.{joiningBytes, joiningImage, joiningIn}
@@ -167,7 +167,6 @@ carry-below z n (To y) h = absurd (pos-ne-negsuc 0 n h)
 carry-below z n carrieds.TableNotSound h = refl
 carry-below z n NotHeld h = refl
 carry-below z n FaultAmong h = refl
-carry-below z n PastRange h = refl
 
 pub unchanged : RefusedUnchanged
 unfolding secondsAt switchesAt disconnectAt faultAt dtcpAt racpAt notifyAt deviceTimeAt featureAt parametersAt readAt carryAt

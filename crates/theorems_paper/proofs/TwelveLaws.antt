@@ -1,15 +1,9 @@
--- The twelve cases, each computed on the definitions.
+-- The twelve cases, each computed on the definitions; case 7, of every table, is a law of carrying.
 -- Assumes nothing.
-use mathlib.Core.Path.{_≡_, refl}
-use mathlib.Core.List.{List, []}
-use Prim.Native.Nat.{ℕ, _-_, _≤_}
-use native.Mathlib.Omega.{arith}
-use borrow.Author.Tests.{le-leb, lt-ltb}
-use lib.ListN.{length, drop-of-length-le}
-use Rattle.record.specs.declared.kinds.Record.{Record}
-use Rattle.table.specs.Table.{next, held}
-use Rattle.table_write.specs.Append.{newest}
-use Rattle.carry.specs.Stamp.{laterOf, carriedOver, carriedFrom, carryOf}
+use mathlib.Core.Path.{refl}
+use Rattle.table.specs.Table.{next}
+use Rattle.carry.specs.Stamp.{laterOf}
+use Rattle.carry.proofs.CarryLaws.{unchanged}
 use Rattle.theorems_paper.specs.Reader.{switchedOn, access, first, second}
 use Rattle.theorems_paper.specs.Twelve.{seen, last, ticked, carrying, cutIn, Case1, Case2, Case3, Case4, Case5, Case6, Case7, Case8, Case9, Case10, Case11, Case12, TwelveCases}
 
@@ -37,18 +31,8 @@ case-6 : Case6
 unfolding carrying
 case-6 = refl
 
--- no record is later than the next number, so nothing moves the stamp
-later-none : (n : ℕ) → laterOf n n ≡ 0
-unfolding laterOf
-later-none n = omega arith
-
-newest-none : (l : List Record) → newest 0 l ≡ []
-newest-none l = let h : length l ≤ length l - 0 = omega arith in drop-of-length-le l h
-
 case-7 : Case7
-unfolding carryOf carriedFrom carriedOver
-case-7 stamp t h s =
-    rw (s, later-none (next t), le-leb 0 (length (held t)) (omega arith), newest-none (held t), lt-ltb stamp 9223372036854775808 (omega arith))
+case-7 stamp t s = unchanged stamp (next t) t s refl
 
 case-8 : Case8
 unfolding laterOf

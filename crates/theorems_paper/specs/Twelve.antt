@@ -3,7 +3,7 @@
 use mathlib.Core.Path.{_≡_}
 use mathlib.Core.Bool.{true}
 use mathlib.Core.List.{List, [], _∷_, map}
-use Prim.Native.Nat.{ℕ, _<_}
+use Prim.Native.Nat.{ℕ}
 use lib.IntN.{ℤ, pos, _-ℤ_}
 use lib.ListN.{length, drop}
 use Rattle.octets.specs.Numbers.{at}
@@ -20,7 +20,7 @@ use Rattle.update_judge.specs.Grounds.{unrealistic, outOfRange}
 use Rattle.rows.specs.Reply.{Outcome}
 use Rattle.carry.specs.Stamp.{laterOf, movedBy, carriedOver, carriedFrom, carryOf}
 use Rattle.carry.specs.declared.stamp.Carried.{Carried}
-use Rattle.carry.specs.declared.stamp.Carried.the-variants.{To, TableNotSound, NotHeld, FaultAmong, PastRange}
+use Rattle.carry.specs.declared.stamp.Carried.the-variants.{To, TableNotSound, NotHeld, FaultAmong}
 use Rattle.theorems_reports.specs.World.{World, worldAfter}
 use Rattle.theorems_reports.specs.Joined.{Got, got}
 use Rattle.theorems_paper.specs.Reader.{write, caseFlags, propose, force, switchedOn, tick, update, access, response, sent, later, first, second, reporting, joined}
@@ -119,7 +119,6 @@ since (To z) base = pos base -ℤ z
 since TableNotSound base = pos 0
 since NotHeld base = pos 0
 since FaultAmong base = pos 0
-since PastRange base = pos 0
 
 pub record Carrying : Type 0 where
   pub stamp : ℕ
@@ -202,9 +201,9 @@ Case6 = carrying ≡
       ran = pos 90;
     }
 
--- 7. "q equal to next: stamp unchanged.": any stamp of 32 bits, any sound table
+-- 7. "q equal to next: stamp unchanged.": any stamp, any sound table
 abbrev pub Case7 : Type 0
-Case7 = (stamp : ℕ) (t : List ℕ) → stamp < 4294967296 → soundB t ≡ true → carryOf stamp (next t) t ≡ To (pos stamp)
+Case7 = (stamp : ℕ) (t : List ℕ) → soundB t ≡ true → carryOf stamp (next t) t ≡ To (pos stamp)
 
 -- 8. "q 65,534, next 1: m is 3."
 abbrev pub Case8 : Type 0

@@ -1,13 +1,8 @@
--- Differences of naturals as integers: how they add up, when one is a natural, and that small ones fit 64 bits.
+-- Differences of naturals as integers: how they add up, and when one is a natural.
 -- Assumes nothing.
 use mathlib.Core.Path.{_≡_, sym, _∙_, ap}
-use mathlib.Core.Bool.{Bool, true, false, cond}
-use Prim.Native.Nat.{ℕ, zero, suc, _+_, _-_, _<_}
-use native.Mathlib.Omega.{arith}
-use borrow.Author.Tests.{lt-ltb}
-use lib.Dec.{ltb}
-use lib.IntN.{ℤ, pos, negsuc, negℤ, _+ℤ_, _-ℤ_, +ℤ-assoc, +ℤ-comm, negℤ-+ℤ, +ℤ-negℤ-cancel, -ℤ-+ℤ-cancel}
-use Rattle.carry.specs.Stamp.{fits64}
+use Prim.Native.Nat.{ℕ, _+_}
+use lib.IntN.{ℤ, pos, negℤ, _+ℤ_, _-ℤ_, +ℤ-assoc, +ℤ-comm, negℤ-+ℤ, +ℤ-negℤ-cancel, -ℤ-+ℤ-cancel}
 
 swap4 : (a b c d : ℤ) → (a +ℤ b) +ℤ (c +ℤ d) ≡ (a +ℤ c) +ℤ (b +ℤ d)
 swap4 a b c d =
@@ -32,11 +27,3 @@ diff-is x a b r h =
         ∙ ap (λ (n : ℕ). pos n -ℤ pos b) h
         ∙ ap (λ (y : ℤ). y -ℤ pos b) (+ℤ-comm (pos a) (pos r))
         ∙ +ℤ-assoc (pos r) (pos a) (negℤ (pos b))
-
-pub diff-fits : (a b : ℕ) → a < 9223372036854775808 → b < 9223372036854775808 → fits64 (pos a -ℤ pos b) ≡ true
-diff-fits a zero ha hb = lt-ltb (a + 0) 9223372036854775808 (omega arith)
-diff-fits a (suc b) ha hb = go (ltb a (suc b))
-  where
-    go : (t : Bool) → fits64 (cond t (negsuc (suc b - suc a)) (pos (a - suc b))) ≡ true
-    go true = lt-ltb (suc b - suc a) 9223372036854775808 (omega arith)
-    go false = lt-ltb (a - suc b) 9223372036854775808 (omega arith)

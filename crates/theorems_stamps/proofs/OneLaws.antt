@@ -10,7 +10,7 @@ use lib.IntN.{ℤ, pos, _+ℤ_, _-ℤ_, +ℤ-comm, +ℤ-negℤ-cancel, -ℤ-+ℤ
 use Rattle.octets.proofs.Tests.{clash}
 use Rattle.carry.specs.Stamp.{carryingNumber, noFaultB}
 use Rattle.carry.specs.declared.stamp.Carried.{Carried}
-use Rattle.carry.specs.declared.stamp.Carried.the-variants.{To, TableNotSound, NotHeld, FaultAmong, PastRange}
+use Rattle.carry.specs.declared.stamp.Carried.the-variants.{To, TableNotSound, NotHeld, FaultAmong}
 use Rattle.theorems_reports.specs.World.{World, Call}
 use Rattle.theorems_stamps.specs.Stamps.{loggedOf, Carrying, carriedAfter, allHeldB, Carries}
 use Rattle.theorems_stamps.specs.Wrong.{OneCarrying}
@@ -25,7 +25,6 @@ answered (To z) h = to z
 answered TableNotSound h = absurd (clash false h refl)
 answered NotHeld h = absurd (clash false h refl)
 answered FaultAmong h = absurd (clash false h refl)
-answered PastRange h = absurd (clash false h refl)
 
 -- a - x = d = a - y
 cancel : (a d x y : ℤ) → a -ℤ x ≡ d → a -ℤ y ≡ d → x ≡ y

@@ -18,14 +18,13 @@ use Rattle.table.specs.Table.{slotsIn, sizeB, capacity, next, held}
 use Rattle.table_write.specs.Append.{newest}
 use Rattle.table.proofs.HeadLaws.{sound-head}
 use Rattle.table_write.proofs.HistoryLaws.{length-held}
-use Rattle.clock.proofs.RuleLaws.{clock-reads}
 use Rattle.theorems_reports.proofs.GoodLaws.{new-table, new-good}
 use Rattle.carry.specs.Stamp.{laterOf, movedBy, carriedOver, carriedFrom, carryOf, carryingNumber, noFaultB}
 use Rattle.carry.specs.declared.stamp.Carried.the-variants.{To, NotHeld, FaultAmong}
 use Rattle.theorems_reports.specs.World.{World, newWorld, Call, runOf}
 use Rattle.theorems_reports.specs.Reach.{Good}
 use Rattle.theorems_stamps.specs.Stamps.{ranOf, loggedOf, carriedAfter, sameRecordsB, allHeldB, HoldsLogged, Carries, CarriedStamp}
-use Rattle.theorems_stamps.proofs.Differences.{diff-add, diff-is, diff-fits}
+use Rattle.theorems_stamps.proofs.Differences.{diff-add, diff-is}
 use Rattle.theorems_reports.proofs.ReachLaws.{reachable}
 use Rattle.theorems_stamps.proofs.SameLaws.{same-records, same-itself, other-length}
 use Rattle.theorems_stamps.proofs.WentLaws.{news, olds, Went, went-run}
@@ -49,21 +48,21 @@ later-is q k n hq hk e = ap (λ (x : ℕ). (x + 65536 - q) % 65536) e ∙ go q k
     go q k hq hk = omega arith
 
 -- the sum over records without a fault, and with one
-over-sums : (l : List Record) (a b : ℕ) → noFaultB l ≡ true → a + news l < 9223372036854775808 → b + olds l < 9223372036854775808
+over-sums : (l : List Record) (a b : ℕ) → noFaultB l ≡ true
     → carriedOver (pos a -ℤ pos b) l ≡ To (pos (a + news l) -ℤ pos (b + olds l))
 unfolding carriedOver movedBy noFaultB news olds
-over-sums [] a b h ha hb =
+over-sums [] a b h =
     let x : a + 0 ≡ a = omega arith in
     let y : b + 0 ≡ b = omega arith in
-    rw (x, y, diff-fits a b (omega arith) (omega arith))
-over-sums (TimeUpdate u ∷ l) a b h ha hb =
+    rw (x, y)
+over-sums (TimeUpdate u ∷ l) a b h =
     let x : a + u .base + news l ≡ a + (u .base + news l) = omega arith in
     let y : b + u .oldbase + olds l ≡ b + (u .oldbase + olds l) = omega arith in
     ap (λ (z : ℤ). carriedOver z l) (diff-add a b (u .base) (u .oldbase))
-    ∙ over-sums l (a + u .base) (b + u .oldbase) h (omega arith) (omega arith)
+    ∙ over-sums l (a + u .base) (b + u .oldbase) h
     ∙ ap (λ (k : ℕ). To (pos k -ℤ pos (b + u .oldbase + olds l))) x
     ∙ ap (λ (k : ℕ). To (pos (a + (u .base + news l)) -ℤ pos k)) y
-over-sums (TimeFault f ∷ l) a b h ha hb = absurd (clash false h refl)
+over-sums (TimeFault f ∷ l) a b h = absurd (clash false h refl)
 
 over-fault : (l : List Record) (z : ℤ) → noFaultB l ≡ false → carriedOver z l ≡ FaultAmong
 unfolding carriedOver noFaultB
@@ -140,11 +139,10 @@ module _ (v w : World) (l : List Record) (n : ℕ) (g : Good v) (d : Went v w l 
   is-sum : leb (length l) (length (held (w .table))) ≡ true → noFaultB l ≡ true
       → carryOf (v .clock .time .base) (next (v .table)) (w .table) ≡ To (pos (v .clock .time .base + news l) -ℤ pos (olds l))
   is-sum h k =
-      let r = clock-reads (v .clock) (g .clock) in
       let x : 0 + olds l ≡ olds l = omega arith in
       rw (carry-is (v .clock .time .base), h)
       (ap (λ (z : ℤ). carriedOver z l) (sym (+ℤ-idr (pos (v .clock .time .base))))
-      ∙ over-sums l (v .clock .time .base) 0 k (omega (arith, d .news-small)) (omega (arith, d .olds-small))
+      ∙ over-sums l (v .clock .time .base) 0 k
       ∙ ap (λ (m : ℕ). To (pos (v .clock .time .base + news l) -ℤ pos m)) x)
 
 to-is : (x z : ℤ) → To x ≡ To z → x ≡ z

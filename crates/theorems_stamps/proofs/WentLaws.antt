@@ -3,7 +3,7 @@
 use mathlib.Core.Path.{_≡_, refl, sym, _∙_, ap}
 use mathlib.Core.Bool.{Bool, true, false}
 use mathlib.Core.List.{List, [], _∷_, _++_, append-nil, append-assoc}
-use Prim.Native.Nat.{ℕ, _+_, _*_, _%_, _<_, _≤_}
+use Prim.Native.Nat.{ℕ, _+_, _%_, _<_}
 use native.Mathlib.Omega.{arith}
 use lib.ListN.{length, length-append}
 use Rattle.octets.specs.Choice.{both, pick}
@@ -63,8 +63,6 @@ pub record Went (v w : World) (l : List Record) (n : ℕ) : Type 0 where
       → held (w .table) ≡ newest (capacity (w .table)) (past ++ l)
   pub capacity : capacity (w .table) ≡ capacity (v .table)
   pub number : next (w .table) ≡ (next (v .table) + length l) % 65536
-  pub news-small : news l ≤ 4294967296 * length l
-  pub olds-small : olds l ≤ 4294967296 * length l
   pub law : noFaultB l ≡ true → w .clock .time .base + olds l ≡ v .clock .time .base + news l + n
 
 news-append : (a b : List Record) → news (a ++ b) ≡ news a + news b
@@ -95,14 +93,8 @@ stay v w n g e b =
       kept = λ past k. rw (e, append-nil past) k;
       capacity = ap capacity e;
       number = number-same (next (w .table)) (next (v .table)) (ap next e) (g .next);
-      news-small = omega arith;
-      olds-small = omega arith;
       law = λ h. omega arith;
     }
-
-fits-small : (r : Record) → Fits r → (newOf r < 4294967296) × (oldOf r < 4294967296)
-fits-small (TimeUpdate u) f = (f .base, f .oldbase)
-fits-small (TimeFault f) h = (omega arith, omega arith)
 
 -- one record is logged
 log-one : (v : World) (c : Clock) (r : Record) → Good v → Good (world c (appendOf (v .table) r)) → Fits r
@@ -110,22 +102,16 @@ log-one : (v : World) (c : Clock) (r : Record) → Good v → Good (world c (app
 unfolding news olds
 log-one v c r g good f moved =
     let d = sound-head (v .table) (g .sound) in
-    let s = fits-small r f in
     record {
       good = good;
       kept = λ past k. newest-appended (v .table) r past d f k;
       capacity = capacity-appended (v .table) r d;
       number = next-appended (v .table) r d;
-      news-small = omega arith;
-      olds-small = omega arith;
       law = λ h. omega (arith, moved h);
     }
 
 number-add : (a m n : ℕ) → ((a + m) % 65536 + n) % 65536 ≡ (a + (m + n)) % 65536
 number-add a m n = omega arith
-
-small-add : (a b m n : ℕ) → a ≤ 4294967296 * m → b ≤ 4294967296 * n → a + b ≤ 4294967296 * (m + n)
-small-add a b m n h k = omega arith
 
 law-add : (x y z o p n m r s : ℕ) → y + o ≡ x + n + r → z + p ≡ y + m + s → z + (o + p) ≡ x + (n + m) + (r + s)
 law-add x y z o p n m r s h k = omega arith
@@ -139,8 +125,6 @@ then {u} {v} {w} {l} {m} {a} {b} x y =
       capacity = y .capacity ∙ x .capacity;
       number = rw (length-append l m)
           (y .number ∙ ap (λ (n : ℕ). (n + length m) % 65536) (x .number) ∙ number-add (next (u .table)) (length l) (length m));
-      news-small = rw (news-append, length-append) (small-add (news l) (news m) (length l) (length m) (x .news-small) (y .news-small));
-      olds-small = rw (olds-append, length-append) (small-add (olds l) (olds m) (length l) (length m) (x .olds-small) (y .olds-small));
       law = λ h.
           let q = both-reads (noFaultB l) (noFaultB m) (sym (no-fault-append l m) ∙ h) in
           rw (news-append, olds-append) (law-add _ _ _ _ _ _ _ _ _ (x .law (q .0)) (y .law (q .1)));

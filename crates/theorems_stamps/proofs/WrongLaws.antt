@@ -5,7 +5,7 @@ use mathlib.Core.Bool.{Bool, true, false}
 use mathlib.Core.List.{List, [], _∷_}
 use Prim.Native.Nat.{ℕ, zero, suc, _+_, _-_, _%_, _<_, _≤_}
 use native.Mathlib.Omega.{arith}
-use borrow.Author.Tests.{le-leb, lt-ltb}
+use borrow.Author.Tests.{le-leb}
 use lib.Dec.{leb, eqb}
 use lib.IntN.{ℤ, pos, negsuc}
 use lib.ListN.{length, replicate, drop-of-length-le}
@@ -14,7 +14,6 @@ use Rattle.record.specs.declared.kinds.Record.{Record}
 use Rattle.table.specs.Table.{sizeB, next, held}
 use Rattle.table_write.specs.Append.{newest}
 use Rattle.clock.specs.Answers as clocks
-use Rattle.clock.proofs.RuleLaws.{clock-reads}
 use Rattle.update.specs.Fault.{faultRecord}
 use Rattle.rows.specs.Reply.{doneB, answered}
 use Rattle.rows.specs.Rows.{wholeB}
@@ -23,7 +22,7 @@ use Rattle.theorems_reports.proofs.GoodLaws.{new-table, new-good}
 use Rattle.rows.proofs.RowLaws.{table-0}
 use Rattle.carry.specs.Stamp.{laterOf, carriedOver, carriedFrom, carryOf, carryingNumber, noFaultB}
 use Rattle.carry.specs.declared.stamp.Carried.{Carried}
-use Rattle.carry.specs.declared.stamp.Carried.the-variants.{To, TableNotSound, NotHeld, FaultAmong, PastRange}
+use Rattle.carry.specs.declared.stamp.Carried.the-variants.{To, TableNotSound, NotHeld, FaultAmong}
 use Rattle.theorems_reports.specs.World.{World, newWorld, Call, seconds, fault, stepOf, runOf}
 use Rattle.theorems_reports.specs.Reach.{Good}
 use Rattle.theorems_stamps.specs.Stamps.{loggedIn, loggedOf, Carrying, carriedAfter, allHeldB, Carries, CarriedBelow, CarriedStamp}
@@ -60,7 +59,6 @@ amount (To (negsuc n)) = 0
 amount TableNotSound = 0
 amount NotHeld = 0
 amount FaultAmong = 0
-amount PastRange = 0
 
 shut : (carry : Carrying) → eqb (amount (carriedAfter carry reached since)) 800000020 ≡ false → CarriedStamp carry → ⊥
 shut carry differs h =
@@ -140,13 +138,11 @@ newest-none : (l : List Record) → newest 0 l ≡ []
 newest-none l = let h : length l ≤ length l - 0 = omega arith in drop-of-length-le l h
 
 -- where m comes out as 0 a stamp is carried, whatever was logged
-carries-none : (later : ℕ → ℕ → ℕ) (v w : World) → Good v → Good w → later (next (w .table)) (next (v .table)) ≡ 0
+carries-none : (later : ℕ → ℕ → ℕ) (v w : World) → Good w → later (next (w .table)) (next (v .table)) ≡ 0
     → eqb (carryingNumber (carryBy later newest carriedOver (v .clock .time .base) (next (v .table)) (w .table))) 0 ≡ true
 unfolding carryBy carriedOver carryingNumber
-carries-none later v w g k e =
-    let r = clock-reads (v .clock) (g .clock) in
-    rw (k .sound, e, le-leb 0 (length (held (w .table))) (omega arith), newest-none (held (w .table)))
-    (rw (lt-ltb (v .clock .time .base) 9223372036854775808 (omega arith)) refl)
+carries-none later v w g e =
+    rw (g .sound, e, le-leb 0 (length (held (w .table))) (omega arith), newest-none (held (w .table)))
 
 -- but with a fault among the records it must not be
 refuses-fault : (carry : Carrying) (v : World) (after : List Call) → Carries carry v after → noFaultB (loggedOf v after) ≡ false
@@ -169,7 +165,7 @@ saturated-at n t h e k =
     let z = round (next (newWorld t .table)) (next (v .table)) (next (runOf v (faults 1) .table)) n (new-table t h .next)
     (next-after n (newWorld t) (new-good t h)) (next-after 1 v g) e in
     clash (eqb (carryingNumber (carriedAfter wrong.saturated v (faults 1))) 0)
-    (carries-none _-_ v (runOf v (faults 1)) g (calls-good (faults 1) v g) z)
+    (carries-none _-_ v (runOf v (faults 1)) (calls-good (faults 1) v g) z)
     (refuses-fault wrong.saturated v (faults 1) (k t (faults n) (faults 1) h few) (fault-among 0 v g))
 
 saturated-out : CarriedStamp wrong.saturated → ⊥
@@ -189,7 +185,7 @@ loose n bound t h e b k =
     let z = whole-round (next (v .table)) (next (runOf v (faults (suc n)) .table)) (suc n) (new-table t h .next) (next-after (suc n) v g) e in
     clash (eqb (carryingNumber (carriedAfter carryOf v (faults (suc n)))) 0)
     (ap (λ (x : Carried). eqb (carryingNumber x) 0) (sym (by-parts _ _ _))
-    ∙ carries-none laterOf v (runOf v (faults (suc n))) g (calls-good (faults (suc n)) v g) z)
+    ∙ carries-none laterOf v (runOf v (faults (suc n))) (calls-good (faults (suc n)) v g) z)
     (refuses-fault carryOf v (faults (suc n)) (k t [] (faults (suc n)) h few) (fault-among n v g))
 
 loose-out : (bound : ℕ) → 65536 < bound → CarriedBelow bound carryOf → ⊥

@@ -9,7 +9,7 @@ use mir.Val.{toZ, ofZ}
 use mir.Facts.{toZ-ofZ, toZ-pos}
 use Rattle.table.specs.Table.{count, held}
 use Rattle.carry.specs.Stamp.{movedBy, carriedOver}
-use Rattle.carry.proofs.CarryLaws.{Within, over-fault, over-update, turn-within, turn-fits, sum-done}
+use Rattle.carry.proofs.CarryLaws.{Within, over-fault, over-update, over-none, turn-within, turn-fits}
 use borrow.Author.Needs.{needs}
 use native.Mathlib.Omega.{arith}
 use Rattle.carry.proofs.stamp.carried_over.Statement.{statement}
@@ -61,7 +61,7 @@ plus-requires : tie.Need-plus-requires Inv-loop μ-loop
 plus-requires c κs =
     let k = c .before .before .before in
     let l = k .before .before in
-    rw (turn c) (turn-fits _ (l .loop .age) (toZ w64 (l .loop .sum)) _ (k .record-at .ensures) (l .before .before .before .pre .0) (search needs) (l .loop .inv .2))
+    rw (turn c) (turn-fits _ (l .loop .age) (toZ w64 (l .loop .sum)) _ (k .record-at .ensures) (l .before .before .before .pre .0) (l .loop .inv .2) (search needs))
 
 add-age : tie.Need-add-age Inv-loop μ-loop
 add-age c = search needs
@@ -85,7 +85,7 @@ loop-again c =
 returns-2 : tie.Need-returns-2 Inv-loop μ-loop
 returns-2 c =
     let l = c .before in
-    sym (l .loop .inv .3 ∙ sum-done _ (l .loop .age) _ (l .before .before .before .pre .0) (search needs) (l .loop .inv .2))
+    sym (l .loop .inv .3 ∙ over-none _ (l .loop .age) _ (search needs))
 
 pub carried-over-spec : {M : Type 1} → statement M
 carried-over-spec =

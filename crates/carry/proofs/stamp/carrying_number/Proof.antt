@@ -1,4 +1,4 @@
--- Each outcome's number, by `numberOf`.
+-- Each outcome's number, by `carryingNumber`.
 -- Assumes nothing.
 use mathlib.Core.Path.{sym, ap}
 use borrow.Author.Needs.{needs}
@@ -18,9 +18,6 @@ enum-told-3 c = search needs
 enum-told-4 : tie.Need-enum-told-4
 enum-told-4 c = search needs
 
-enum-told-5 : tie.Need-enum-told-5
-enum-told-5 c = search needs
-
 returns : tie.Need-returns
 unfolding carryingNumber
 returns c = sym (ap carryingNumber (c .enum-told .given .1))
@@ -37,10 +34,6 @@ returns-4 : tie.Need-returns-4
 unfolding carryingNumber
 returns-4 c = sym (ap carryingNumber (c .enum-told4 .given .1))
 
-returns-5 : tie.Need-returns-5
-unfolding carryingNumber
-returns-5 c = sym (ap carryingNumber (c .enum-told5 .given .1))
-
 pub carrying-number-spec : {M : Type 1} → statement M
 carrying-number-spec =
     tie.close
@@ -49,9 +42,7 @@ carrying-number-spec =
     enum-told-2
     enum-told-3
     enum-told-4
-    enum-told-5
     returns
     returns-2
     returns-3
-    returns-4
-    returns-5)
+    returns-4)

@@ -21,7 +21,7 @@ carrying-number-requires c κs = search needs
 returns : tie.Need-returns
 returns c =
     refused-is (c .before .before .args .c)
-    (λ z e. miss (1 ∷ 2 ∷ 3 ∷ 4 ∷ []) 0 tt (rw e at (c .before .match .keys2)))
+    (λ z e. miss (1 ∷ 2 ∷ 3 ∷ []) 0 tt (rw e at (c .before .match .keys2)))
     (c .carrying-number .ensures)
 
 signed-requires : tie.Need-signed-requires

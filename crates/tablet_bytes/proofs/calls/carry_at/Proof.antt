@@ -25,9 +25,6 @@ enum-told-2 c = search needs
 enum-told-3 : tie.Need-enum-told-3
 enum-told-3 c = search needs
 
-enum-told-4 : tie.Need-enum-told-4
-enum-told-4 c = search needs
-
 returns : tie.Need-returns
 unfolding carryingNumber
 returns c = ap (carrying (pos 0)) (toZ-ofZ (record { sfits = c .known-told .given .0 .1 })) ∙ carry-told _ _ _ (c .before .before .before .before .before .args .carried .now) (c .before .before .before .carry .ensures) (c .before .to .given .1)
@@ -44,10 +41,6 @@ returns-4 : tie.Need-returns-4
 unfolding carryingNumber
 returns-4 c = carry-told _ _ _ _ (c .before .before .carry .ensures) (c .enum-told3 .given .1)
 
-returns-5 : tie.Need-returns-5
-unfolding carryingNumber
-returns-5 c = carry-told _ _ _ _ (c .before .before .carry .ensures) (c .enum-told4 .given .1)
-
 pub carry-at-spec : {M : Type 1} → statement M
 carry-at-spec =
     tie.close
@@ -57,9 +50,7 @@ carry-at-spec =
     enum-told
     enum-told-2
     enum-told-3
-    enum-told-4
     returns
     returns-2
     returns-3
-    returns-4
-    returns-5)
+    returns-4)
