@@ -12,11 +12,14 @@ use Rattle.octets.specs.Choice.{both, pick}
 use Rattle.octets.specs.Numbers.{le32}
 use Rattle.octets.proofs.Tests.{false-by, both-reads, clash}
 use Rattle.text.specs.Laid.{Filled, filled, laid}
+use Rattle.text.proofs.LaidLaws.{laid-within}
 use Rattle.table.specs.Table.{sizeB, held, soundB}
+use Rattle.table.proofs.HeadLaws.{size-reads}
 use Rattle.season_figures.specs.Figures.{sumOf, figuresIn, inWidths}
 use Rattle.season_figures.specs.declared.figures.Figures.{Figures}
 use Rattle.season_step.specs.Lines.{tableLine, endedLine, totalLine}
-use Rattle.season_step.specs.Step.{mostTables, tableBytes, wholeB, Stepped, endsWith, taken, passedOver, stepOf, Outcome, stepped}
+use Rattle.season_step.specs.Step.{mostTables, tableBytes, wholeB, Stepped, endsWith, taken, passedOver, stepOf, Outcome, outcome, stepped}
+use Rattle.season_step.specs.declared.step.Run.{Run}
 
 module _ (bytes : List ℕ) where
   pub bytes-short : length bytes < 4 → tableBytes bytes ≡ 0
@@ -26,6 +29,15 @@ module _ (bytes : List ℕ) where
   pub bytes-said : (permitted : Bool) → 4 ≤ length bytes → sizeB (le32 bytes 0) ≡ permitted → tableBytes bytes ≡ pick permitted (le32 bytes 0) 0
   unfolding tableBytes
   bytes-said permitted h e = rw (le-leb _ _ h, e)
+
+  -- a permitted size is at most the largest table's
+  pub bytes-few : tableBytes bytes ≤ 65488
+  unfolding tableBytes
+  bytes-few = go (both (leb 4 (length bytes)) (sizeB (le32 bytes 0))) refl
+    where
+      go : (b : Bool) → both (leb 4 (length bytes)) (sizeB (le32 bytes 0)) ≡ b → pick b (le32 bytes 0) 0 ≤ 65488
+      go true e = let s = size-reads (le32 bytes 0) (both-reads (leb 4 (length bytes)) _ e .1) in omega arith
+      go false e = omega arith
 
   -- a whole entry has the four bytes of its size
   pub whole-long : wholeB bytes ≡ true → 4 ≤ length bytes
@@ -87,3 +99,14 @@ module _ (p : ℕ) (f : Figures) (entry : List ℕ) where
       go false false s h = absurd (clash false h refl)
       go false true true h = (refl, refl)
       go false true false h = (refl, refl)
+
+-- what a caller of `step` needs of its outcome
+module _ (p : ℕ) (f : Figures) (entry b x : List ℕ) (s : Run) (e : outcome s x ≡ stepped b (stepOf p f entry)) where
+  pub outcome-within : s .len ≤ length x
+  unfolding stepped
+  outcome-within = laid-within b (stepOf p f entry .text) (ap (λ (o : Outcome). o .lines) e)
+
+  pub outcome-more : s .more ≡ true → (p ≤ mostTables) × (s .position ≡ p + 1)
+  unfolding stepped
+  outcome-more h =
+      let r = step-more p f entry (sym (ap (λ (o : Outcome). o .more) e) ∙ h) in (r .0, ap (λ (o : Outcome). o .position) e ∙ r .1)
