@@ -13,13 +13,11 @@ use lib.Seq.{drop-drop}
 use lib.IntN.{ℤ, pos, natAbs, _+ℤ_, +ℤ-assoc, +ℤ-idr}
 use mir.Syntax.{w64}
 use mir.Val.{SFits}
-use Rattle.octets.specs.Choice.{both, pick}
-use Rattle.octets.proofs.Tests.{both-reads}
-use Rattle.rules.specs.Fields.{baseB, zoneB, dstB, sourceB, statusB}
+use Rattle.octets.specs.Choice.{pick}
 use Rattle.rules.proofs.RangeLaws.{base-reads}
 use Rattle.record.specs.Fields.{typeOf}
 use Rattle.record_read.specs.Reading.{updateB, recordB}
-use Rattle.record_read.proofs.RuleLaws.{update-rules}
+use Rattle.record_read.proofs.RuleLaws.{update-times}
 use Rattle.record.specs.declared.kinds.Update.{Update}
 use Rattle.record.specs.declared.kinds.Record.{Record}
 use Rattle.record.specs.declared.kinds.Record.the-variants.{TimeUpdate, TimeFault}
@@ -61,10 +59,7 @@ over-none t k z h = rw (none-left t k h)
 -- the held records of a sound table are within the rules, so their times are of 32 bits
 times-small : (u : Update) → updateB u ≡ true → (u .base < 4294967296) × (u .oldbase < 4294967296)
 times-small u h =
-    let a = both-reads (both (statusB (u .status)) (statusB (u .oldstatus))) _ (sym (update-rules u) ∙ h) in
-    let b = both-reads (both (zoneB (u .zone)) (dstB (u .dst))) _ (a .1) in
-    let d = both-reads (sourceB (u .source)) _ (b .1) in
-    let e = both-reads (baseB (u .base)) (baseB (u .oldbase)) (d .1) in
+    let e = update-times u h in
     let x = base-reads (u .base) (e .0) in
     let y = base-reads (u .oldbase) (e .1) in
     (omega arith, omega arith)

@@ -9,7 +9,7 @@ ghost use Prim.Native.Nat.{_-_, max};
 ghost use Rattle.table.specs.Table.{held, soundB};
 ghost use Rattle.season_figures.specs.Figures.{nothing, figuresOf, sumOf, inWidths, figuresIn};
 
-// Seconds in 64 bits: 65,535 full tables move a clock by fewer than 2^63 of them (`season_figures::theorems::fitting`).
+// Seconds in 64 bits: 65,535 full tables move a clock by fewer than 2^63 of them (`theorems_season::theorems::exact`).
 pub struct Figures {
     pub updates: u32,
     pub forward: u64,

@@ -32,7 +32,7 @@ unfolding carrying
 case-6 = refl
 
 case-7 : Case7
-case-7 stamp t s = unchanged stamp (next t) t s refl
+case-7 stamp t h s = unchanged stamp (next t) t s refl
 
 case-8 : Case8
 unfolding laterOf

@@ -3,7 +3,7 @@
 use mathlib.Core.Path.{_≡_}
 use mathlib.Core.Bool.{true}
 use mathlib.Core.List.{List, [], _∷_, map}
-use Prim.Native.Nat.{ℕ}
+use Prim.Native.Nat.{ℕ, _<_}
 use lib.IntN.{ℤ, pos, _-ℤ_}
 use lib.ListN.{length, drop}
 use Rattle.octets.specs.Numbers.{at}
@@ -201,9 +201,9 @@ Case6 = carrying ≡
       ran = pos 90;
     }
 
--- 7. "q equal to next: stamp unchanged.": any stamp, any sound table
+-- 7. "q equal to next: stamp unchanged.": any stamp of 32 bits, any sound table
 abbrev pub Case7 : Type 0
-Case7 = (stamp : ℕ) (t : List ℕ) → soundB t ≡ true → carryOf stamp (next t) t ≡ To (pos stamp)
+Case7 = (stamp : ℕ) (t : List ℕ) → stamp < 4294967296 → soundB t ≡ true → carryOf stamp (next t) t ≡ To (pos stamp)
 
 -- 8. "q 65,534, next 1: m is 3."
 abbrev pub Case8 : Type 0

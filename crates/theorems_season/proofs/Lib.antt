@@ -1,0 +1,4 @@
+pub mod StepLaws
+pub mod TotalLaws
+pub mod EntryLaws
+pub mod RunLaws
