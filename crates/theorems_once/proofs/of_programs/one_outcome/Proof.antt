@@ -15,10 +15,24 @@ returns c =
       with-number = (λ κs a. tt, λ κs a x y u v h p q. (p ∙ sym q, refl));
       with-word = (λ κs a. tt, λ κs a x y u v h p q. (p ∙ sym q, refl));
       put-line = λ κs a x y u v h p q. (p .0 ∙ sym (q .0), ap (λ (b : List ℕ). (b, (tt, (tt, tt)))) (p .1 ∙ sym (q .1)));
+      put-word = λ κs a x y u v h p q. split p q (λ w. w .end) (λ w. (w .buffer, (tt, (tt, tt))));
+      put-number = λ κs a x y u v h p q. split p q (λ w. w .end) (λ w. (w .buffer, (tt, (tt, tt))));
       refused-line = (λ κs a. tt, λ κs a x y u v h p q. (p ∙ sym q, refl));
       head-line = λ κs a x y u v h p q. (p ∙ sym q, refl);
       record-line = (λ κs a. tt, λ κs a x y u v h p q. (p .0 ∙ sym (q .0), refl));
       listing = (λ κs a. tt, λ κs a x y u v h p q. split p q (λ w. w .end) (λ w. (tt, (w .buffer, tt))));
+      no-figures = (λ κs a. tt, λ κs a x y u v h p q. (p ∙ sym q, refl));
+      together = (λ κs a. tt, λ κs a x y u v h p q. (p ∙ sym q, refl));
+      figures-in = λ κs a x y u v h p q. (p ∙ sym q, refl);
+      put-table = λ κs a x y u v h p q. split p q (λ w. w .end) (λ w. (w .buffer, (tt, (tt, tt))));
+      put-refused = λ κs a x y u v h p q. split p q (λ w. w .end) (λ w. (w .buffer, (tt, tt)));
+      put-ended = λ κs a x y u v h p q. split p q (λ w. w .end) (λ w. (w .buffer, (tt, tt)));
+      put-total = λ κs a x y u v h p q. split p q (λ w. w .end) (λ w. (w .buffer, (tt, (tt, tt))));
+      table-bytes = (λ κs a. tt, λ κs a x y u v h p q. (p ∙ sym q, refl));
+      step = (
+        λ κs a. tt,
+        λ κs a x y u v h p q. split p q (λ w. record { len = w .lines .end; more = w .more; position = w .position; totals = w .totals }) (λ w. (tt, (tt, (tt, (w .lines .buffer, tt))))),
+      );
       tag-line = (λ κs a. tt, λ κs a x y u v h p q. (p ∙ sym q, refl));
       title-line = (λ κs a. tt, λ κs a x y u v h p q. (p ∙ sym q, refl));
       started = (λ κs a. tt, λ κs a x y u v h p q. (p ∙ sym q, refl));
