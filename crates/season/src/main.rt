@@ -3,17 +3,16 @@
 // entry is read, a step made, its lines written. The one buffer that is read into has 64 KiB.
 use octets::choice::both;
 use season_figures::figures::Figures;
-use season_figures::figures::no_figures;
 use season_step::step::LINES_BYTES;
 use season_step::step::Run;
+use season_step::step::SIZE_BYTES;
+use season_step::step::begun;
 use season_step::step::step;
 use season_step::step::table_bytes;
 ghost use mathlib.Core.Path.{_≡_};
 ghost use mathlib.Core.Bool.{true, false};
 ghost use Prim.Native.Nat.{_+_, _≤_};
 ghost use lib.ListN.{length};
-
-const HEAD_BYTES: usize = 4;
 
 // How many bytes were read, and whether that is all that the input has: false where a read failed.
 struct Got {
@@ -54,10 +53,10 @@ fn read_entry(input: &mut [u8]) -> Got
     requires { ⌜ 65536 ≤ length (now input) ⌝ }
     ensures { λ r. ⌜ r .bytes ≤ length (now (input .entry)) ⌝ }
 {
-    let head = read_part(&mut input[..HEAD_BYTES]);
+    let head = read_part(&mut input[..SIZE_BYTES]);
     let n = head.bytes;
-    let end = HEAD_BYTES + table_bytes(&input[..n]);
-    let table = read_part(&mut input[HEAD_BYTES..end]);
+    let end = SIZE_BYTES + table_bytes(&input[..n]);
+    let table = read_part(&mut input[SIZE_BYTES..end]);
     Got {
         bytes: n + table.bytes,
         sure: both(head.sure, table.sure),
@@ -103,14 +102,9 @@ fn turn(position: u32, totals: Figures, input: &mut [u8]) -> Run
 
 fn main() {
     let mut input = io::large_buffer();
-    let mut position = 1;
-    let mut totals = no_figures();
-    let mut more = true;
-    while more {
-        let run = turn(position, totals, &mut input);
-        let sums = run.totals;
-        position = run.position;
-        totals = sums;
-        more = run.more;
+    let mut run = begun();
+    while run.more {
+        let totals = run.totals;
+        run = turn(run.position, totals, &mut input);
     }
 }

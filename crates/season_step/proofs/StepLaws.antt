@@ -17,7 +17,7 @@ use Rattle.table.specs.Table.{sizeB, held, soundB}
 use Rattle.table.proofs.HeadLaws.{size-reads}
 use Rattle.season_figures.specs.Figures.{sumOf, figuresIn, inWidths}
 use Rattle.season_figures.specs.declared.figures.Figures.{Figures}
-use Rattle.season_step.specs.Lines.{tableLine, endedLine, totalLine}
+use Rattle.season_text.specs.Lines.{tableLine, endedLine, totalLine}
 use Rattle.season_step.specs.Step.{mostTables, tableBytes, wholeB, Stepped, endsWith, taken, passedOver, stepOf, Outcome, outcome, stepped}
 use Rattle.season_step.specs.declared.step.Run.{Run}
 

@@ -10,9 +10,9 @@ use Rattle.octets.specs.Choice.{both, pick}
 use Rattle.octets.specs.Numbers.{le32}
 use Rattle.text.specs.Laid.{Filled, filled, laid}
 use Rattle.table.specs.Table.{sizeB, held, soundB}
-use Rattle.season_figures.specs.Figures.{sumOf, figuresIn, inWidths}
+use Rattle.season_figures.specs.Figures.{nothing, sumOf, figuresIn, inWidths}
 use Rattle.season_figures.specs.declared.figures.Figures.{Figures}
-use Rattle.season_step.specs.Lines.{tableLine, refusedLine, endedLine, totalLine}
+use Rattle.season_text.specs.Lines.{tableLine, refusedLine, endedLine, totalLine}
 use Rattle.season_step.specs.declared.step.Run.{Run}
 
 -- "its size in four bytes"
@@ -22,6 +22,10 @@ sizeLength = 4
 -- "a table after the 65,535th ends the run"
 abbrev pub mostTables : ℕ
 mostTables = 65535
+
+-- a run before its first entry: nothing is written, and the first position is 1
+unfoldable pub beginning : Run
+beginning = record { len = 0; more = true; position = 1; totals = nothing }
 
 -- how many bytes of a table follow an entry's first four: as many as they say, where that is a permitted size. None follow another size, nor
 -- where the input ends before the fourth.

@@ -1,3 +1,2 @@
-// A run over the logs of a season, one table at a time (change request E12): its lines, `lines`; a step, `step`.
-pub mod lines;
+// A run over the logs of a season, one table at a time (change request E12).
 pub mod step;

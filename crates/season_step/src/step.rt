@@ -1,14 +1,15 @@
 // One step of a run over the logs of a season (change request E12): from the position, the totals so far and an entry, which
 // is a size with its table, to the lines, the new totals, and whether the run goes on.
-use crate::lines::put_ended;
-use crate::lines::put_refused;
-use crate::lines::put_table;
-use crate::lines::put_total;
 use octets::choice::both;
 use octets::numbers::get32;
 use season_figures::figures::Figures;
 use season_figures::figures::figures_in;
+use season_figures::figures::no_figures;
 use season_figures::figures::together;
+use season_text::lines::put_ended;
+use season_text::lines::put_refused;
+use season_text::lines::put_table;
+use season_text::lines::put_total;
 use table::header::size_ok;
 use table_sound::sound::sound;
 ghost use mathlib.Core.Path.{_≡_};
@@ -17,10 +18,10 @@ ghost use Prim.Native.Nat.{_+_, _≤_};
 ghost use lib.ListN.{length};
 ghost use Rattle.octets.specs.Choice.{pick};
 ghost use Rattle.table.specs.Table.{soundB};
-ghost use Rattle.season_step.specs.Step.{mostTables, tableBytes, wholeB, endsWith, taken, passedOver, stepOf, outcome, stepped};
+ghost use Rattle.season_step.specs.Step.{mostTables, beginning, tableBytes, wholeB, endsWith, taken, passedOver, stepOf, outcome, stepped};
 
 // "Its size in four bytes", and "a table after the 65,535th ends the run".
-const SIZE_BYTES: usize = 4;
+pub const SIZE_BYTES: usize = 4;
 
 const MOST_TABLES: u32 = 65535;
 
@@ -33,6 +34,19 @@ pub struct Run {
     pub more: bool,
     pub position: u32,
     pub totals: Figures,
+}
+
+// A run before its first entry.
+pub fn begun() -> Run
+    ensures { λ r. ⌜ r ≡ beginning ⌝ }
+{
+    let totals = no_figures();
+    Run {
+        len: 0,
+        more: true,
+        position: 1,
+        totals,
+    }
 }
 
 // How many bytes of a table are to be read after an entry's first four, of which the input may have had fewer.

@@ -30,14 +30,16 @@ use Rattle.season_figures.proofs.figures.together.Kinds as together-kinds
 use Rattle.season_figures.proofs.figures.together.Reads as together-reads
 use Rattle.season_figures.proofs.figures.figures_in.Kinds as figures-in-kinds
 use Rattle.season_figures.proofs.figures.figures_in.Reads as figures-in-reads
-use Rattle.season_step.proofs.lines.put_table.Kinds as put-table-kinds
-use Rattle.season_step.proofs.lines.put_table.Reads as put-table-reads
-use Rattle.season_step.proofs.lines.put_refused.Kinds as put-refused-kinds
-use Rattle.season_step.proofs.lines.put_refused.Reads as put-refused-reads
-use Rattle.season_step.proofs.lines.put_ended.Kinds as put-ended-kinds
-use Rattle.season_step.proofs.lines.put_ended.Reads as put-ended-reads
-use Rattle.season_step.proofs.lines.put_total.Kinds as put-total-kinds
-use Rattle.season_step.proofs.lines.put_total.Reads as put-total-reads
+use Rattle.season_text.proofs.lines.put_table.Kinds as put-table-kinds
+use Rattle.season_text.proofs.lines.put_table.Reads as put-table-reads
+use Rattle.season_text.proofs.lines.put_refused.Kinds as put-refused-kinds
+use Rattle.season_text.proofs.lines.put_refused.Reads as put-refused-reads
+use Rattle.season_text.proofs.lines.put_ended.Kinds as put-ended-kinds
+use Rattle.season_text.proofs.lines.put_ended.Reads as put-ended-reads
+use Rattle.season_text.proofs.lines.put_total.Kinds as put-total-kinds
+use Rattle.season_text.proofs.lines.put_total.Reads as put-total-reads
+use Rattle.season_step.proofs.step.begun.Kinds as begun-kinds
+use Rattle.season_step.proofs.step.begun.Reads as begun-reads
 use Rattle.season_step.proofs.step.table_bytes.Kinds as table-bytes-kinds
 use Rattle.season_step.proofs.step.table_bytes.Reads as table-bytes-reads
 use Rattle.season_step.proofs.step.step.Kinds as step-kinds
@@ -76,6 +78,7 @@ pub record OneOutcome : Type 0 where
   pub put-refused : Only put-refused-kinds.ps put-refused-kinds.r put-refused-reads.Pre put-refused-reads.Post
   pub put-ended : Only put-ended-kinds.ps put-ended-kinds.r put-ended-reads.Pre put-ended-reads.Post
   pub put-total : Only put-total-kinds.ps put-total-kinds.r put-total-reads.Pre put-total-reads.Post
+  pub begun : Door begun-kinds.ps begun-kinds.r begun-reads.Pre begun-reads.Post
   pub table-bytes : Door table-bytes-kinds.ps table-bytes-kinds.r table-bytes-reads.Pre table-bytes-reads.Post
   pub step : Door step-kinds.ps step-kinds.r step-reads.Pre step-reads.Post
   pub tag-line : DoorPart tag-line-kinds.ps tag-line-kinds.r (λ κs. textOf) tag-line-reads.Pre tag-line-reads.Post

@@ -15,7 +15,7 @@ use Rattle.record.specs.declared.kinds.Record.{Record}
 use Rattle.table.specs.Table.{held, soundB}
 use Rattle.season_figures.specs.Figures.{nothing, figuresIn}
 use Rattle.season_figures.specs.declared.figures.Figures.{Figures}
-use Rattle.season_step.specs.Lines.{tableLine, refusedLine, endedLine, totalLine}
+use Rattle.season_text.specs.Lines.{tableLine, refusedLine, endedLine, totalLine}
 use Rattle.season_step.specs.Step.{wholeB, Stepped, taken, stepOf}
 use Rattle.season_step.proofs.StepLaws.{step-more}
 use Rattle.theorems_season.specs.Run.{entryIn, runFrom, seasonOf, joined, allWholeB, tableOf, lineOf, linesFrom, addedBy, recordsIn, totalsOf, stopsB}

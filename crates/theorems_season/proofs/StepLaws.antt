@@ -15,7 +15,7 @@ use Rattle.octets.proofs.Tests.{false-by, both-yes, both-no, both-reads, clash}
 use Rattle.table.specs.Table.{soundB}
 use Rattle.table.proofs.HeadLaws.{Size, size-reads}
 use Rattle.season_figures.specs.declared.figures.Figures.{Figures}
-use Rattle.season_step.specs.Lines.{refusedLine, endedLine, totalLine}
+use Rattle.season_text.specs.Lines.{refusedLine, endedLine, totalLine}
 use Rattle.season_step.specs.Step.{mostTables, wholeB, Stepped, endsWith, taken, passedOver, stepOf}
 use Rattle.season_step.proofs.StepLaws.{step-empty, step-cut, step-table, step-more, table-refused, table-taken}
 use Rattle.theorems_season.specs.Run.{tableOf}

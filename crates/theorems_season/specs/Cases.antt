@@ -17,7 +17,7 @@ use Rattle.table_write.specs.Start.{fresh}
 use Rattle.table_write.specs.Append.{placeOf, slotOf, headerAfter, appendOf, logAll}
 use Rattle.text.specs.Line.{digitsUpTo, decimal}
 use Rattle.season_figures.specs.Figures.{nothing, figuresOf, sumOf, figuresIn, inWidths}
-use Rattle.season_step.specs.Lines.{updatesWord, forwardWord, backWord, faultsWord, largestWord, totalWord, endedWord, named, firstFigures, lastFigures, figuresText, tableLine, refusedLine, endedLine, totalLine}
+use Rattle.season_text.specs.Lines.{updatesWord, forwardWord, backWord, faultsWord, largestWord, totalWord, endedWord, named, firstFigures, lastFigures, figuresText, tableLine, refusedLine, endedLine, totalLine}
 use Rattle.season_step.specs.Step.{tableBytes, wholeB, endsWith, taken, passedOver, stepOf}
 use Rattle.theorems_season.specs.Run.{entryIn, runFrom, seasonOf}
 

@@ -10,7 +10,7 @@ use Rattle.record.specs.declared.kinds.Record.{Record}
 use Rattle.table.specs.Table.{held, soundB}
 use Rattle.season_figures.specs.Figures.{nothing, figuresIn}
 use Rattle.season_figures.specs.declared.figures.Figures.{Figures}
-use Rattle.season_step.specs.Lines.{tableLine, refusedLine}
+use Rattle.season_text.specs.Lines.{tableLine, refusedLine}
 use Rattle.season_step.specs.Step.{sizeLength, mostTables, tableBytes, wholeB, stepOf}
 
 -- the entry with which an input begins: four bytes, and as many more as they ask for, as far as the input has them

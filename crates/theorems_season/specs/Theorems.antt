@@ -9,7 +9,7 @@ use lib.ListN.{length}
 use Rattle.table.specs.Table.{soundB}
 use Rattle.season_figures.specs.Figures.{nothing, inWidths}
 use Rattle.season_figures.specs.declared.figures.Figures.{Figures}
-use Rattle.season_step.specs.Lines.{refusedLine, endedLine, totalLine}
+use Rattle.season_text.specs.Lines.{refusedLine, endedLine, totalLine}
 use Rattle.season_step.specs.Step.{wholeB, Stepped, stepOf}
 use Rattle.theorems_season.specs.Run.{runFrom, seasonOf, joined, allWholeB, tableOf, linesFrom, totalsOf, stopsB}
 

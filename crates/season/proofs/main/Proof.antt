@@ -12,10 +12,10 @@ use Rattle.season.proofs.main.Statement.{statement}
 use Rattle.season.proofs.main.Tie as tie
 
 abbrev Inv-loop : tie.InvT-loop
-Inv-loop input₀ position₀ totals₀ more₀ input position totals more = 65536 ≡ length input
+Inv-loop input₀ run₀ input run = 65536 ≡ length input
 
 abbrev μ-loop : tie.MeasureT-loop
-μ-loop input₀ position₀ totals₀ more₀ input position totals more = pick more (1 + (65537 - position)) 0
+μ-loop input₀ run₀ input run = pick (run .more) (1 + (65537 - run .position)) 0
 
 falls : (m n : Bool) (p q : ℕ) → m ≡ true → (n ≡ true → (p ≤ 65535) × (q ≡ p + 1)) → pick n (1 + (65537 - q)) 0 < pick m (1 + (65537 - p)) 0
 falls true true p q e h = let r = h refl in omega arith
@@ -25,8 +25,8 @@ falls false n p q e h = absurd (clash false e refl)
 large-buffer-requires : tie.Need-large-buffer-requires Inv-loop μ-loop
 large-buffer-requires c κs = search needs
 
-no-figures-requires : tie.Need-no-figures-requires Inv-loop μ-loop
-no-figures-requires c κs = search needs
+begun-requires : tie.Need-begun-requires Inv-loop μ-loop
+begun-requires c κs = search needs
 
 loop-holds : tie.Need-loop-holds Inv-loop μ-loop
 loop-holds c = search needs
@@ -39,9 +39,9 @@ turn-requires c κs = search needs
 
 loop-less : tie.Need-loop-less Inv-loop μ-loop
 loop-less c =
-    let t = c .before .before in
-    let l = t .before .before in
-    falls (l .before .loop .more) (t .turn .result .more) (l .before .loop .position) (t .turn .result .position) (l .loop-test .taken) (t .turn .ensures)
+    let t = c .before in
+    let i = t .before .before .before in
+    falls (i .before .loop .run .more) (t .turn .result .more) (i .before .loop .run .position) (t .turn .result .position) (i .loop-test .taken) (t .turn .ensures)
 
 loop-again : tie.Need-loop-again Inv-loop μ-loop
 loop-again c = search needs
@@ -56,7 +56,7 @@ main-spec =
     Inv-loop
     μ-loop
     large-buffer-requires
-    no-figures-requires
+    begun-requires
     loop-holds
     slice-aggregate-turn
     turn-requires

@@ -12,9 +12,9 @@ use Rattle.octets.specs.Choice.{both, pick}
 use Rattle.octets.proofs.Tests.{both-reads}
 use Rattle.text.proofs.LaidLaws.{end-of, laid-on}
 use Rattle.table.specs.Table.{soundB}
-use Rattle.season_step.specs.Lines.{endedLine, totalLine}
+use Rattle.season_text.specs.Lines.{endedLine, totalLine}
 use Rattle.season_step.specs.Step.{mostTables, wholeB, endsWith, taken, passedOver, stepped}
-use Rattle.season_step.proofs.LineLaws.{ended-short}
+use Rattle.season_text.proofs.LineLaws.{ended-short}
 use Rattle.season_step.proofs.StepLaws.{outcome-is, whole-long, step-empty, step-cut, step-table}
 use borrow.Author.Needs.{needs}
 use native.Mathlib.Omega.{arith}

@@ -28,6 +28,7 @@ returns c =
       put-refused = λ κs a x y u v h p q. split p q (λ w. w .end) (λ w. (w .buffer, (tt, tt)));
       put-ended = λ κs a x y u v h p q. split p q (λ w. w .end) (λ w. (w .buffer, (tt, tt)));
       put-total = λ κs a x y u v h p q. split p q (λ w. w .end) (λ w. (w .buffer, (tt, (tt, tt))));
+      begun = (λ κs a. tt, λ κs a x y u v h p q. (p ∙ sym q, refl));
       table-bytes = (λ κs a. tt, λ κs a x y u v h p q. (p ∙ sym q, refl));
       step = (
         λ κs a. tt,

@@ -3,12 +3,12 @@
 use mathlib.Core.Path.{_∙_}
 use mathlib.Core.List.{[], _∷_, _++_}
 use Rattle.text.proofs.LaidLaws.{end-of, laid-on}
-use Rattle.season_step.specs.Lines.{endedWord, named, endedLine}
-use Rattle.season_step.proofs.LineLaws.{named-short}
+use Rattle.season_text.specs.Lines.{endedWord, named, endedLine}
+use Rattle.season_text.proofs.LineLaws.{named-short}
 use borrow.Author.Needs.{needs}
 use native.Mathlib.Omega.{arith}
-use Rattle.season_step.proofs.lines.put_ended.Statement.{statement}
-use Rattle.season_step.proofs.lines.put_ended.Tie as tie
+use Rattle.season_text.proofs.lines.put_ended.Statement.{statement}
+use Rattle.season_text.proofs.lines.put_ended.Tie as tie
 
 slice-aggregate-put-named : tie.Need-slice-aggregate-put-named
 slice-aggregate-put-named c = search needs

@@ -5,12 +5,12 @@ use mathlib.Core.List.{_++_}
 use Prim.Native.Nat.{_+_, _≤_}
 use lib.ListN.{length}
 use Rattle.text.proofs.LaidLaws.{end-of, laid-on}
-use Rattle.season_step.specs.Lines.{updatesWord, forwardWord, backWord, named, firstFigures}
-use Rattle.season_step.proofs.LineLaws.{named-short}
+use Rattle.season_text.specs.Lines.{updatesWord, forwardWord, backWord, named, firstFigures}
+use Rattle.season_text.proofs.LineLaws.{named-short}
 use borrow.Author.Needs.{needs}
 use native.Mathlib.Omega.{arith}
-use Rattle.season_step.proofs.lines.put_first.Statement.{statement}
-use Rattle.season_step.proofs.lines.put_first.Tie as tie
+use Rattle.season_text.proofs.lines.put_first.Statement.{statement}
+use Rattle.season_text.proofs.lines.put_first.Tie as tie
 
 ends : (c : tie.After-put-named) → c .put-named .result ≤ c .before .before .before .before .before .args .at + 29
 ends c =

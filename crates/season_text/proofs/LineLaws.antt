@@ -5,7 +5,7 @@ use Prim.Native.Nat.{ℕ, _+_, _≤_}
 use native.Mathlib.Omega.{arith}
 use lib.ListN.{length, length-append}
 use Rattle.text.proofs.DecimalLaws.{decimal-short-any}
-use Rattle.season_step.specs.Lines.{updatesWord, forwardWord, backWord, named, firstFigures, endedLine}
+use Rattle.season_text.specs.Lines.{updatesWord, forwardWord, backWord, named, firstFigures, endedLine}
 use Rattle.season_figures.specs.declared.figures.Figures.{Figures}
 
 pub named-short : (word : List ℕ) (n : ℕ) → length (named word n) ≤ length word + 20

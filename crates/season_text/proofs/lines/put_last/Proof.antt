@@ -4,12 +4,12 @@ use mathlib.Core.Path.{_∙_}
 use mathlib.Core.List.{[], _∷_, _++_}
 use Prim.Native.Nat.{_+_, _≤_}
 use Rattle.text.proofs.LaidLaws.{end-of, laid-on}
-use Rattle.season_step.specs.Lines.{faultsWord, largestWord, named, lastFigures}
-use Rattle.season_step.proofs.LineLaws.{named-short}
+use Rattle.season_text.specs.Lines.{faultsWord, largestWord, named, lastFigures}
+use Rattle.season_text.proofs.LineLaws.{named-short}
 use borrow.Author.Needs.{needs}
 use native.Mathlib.Omega.{arith}
-use Rattle.season_step.proofs.lines.put_last.Statement.{statement}
-use Rattle.season_step.proofs.lines.put_last.Tie as tie
+use Rattle.season_text.proofs.lines.put_last.Statement.{statement}
+use Rattle.season_text.proofs.lines.put_last.Tie as tie
 
 ends : (c : tie.After-put-named) → c .put-named .result ≤ c .before .before .before .before .before .args .at + 28
 ends c =

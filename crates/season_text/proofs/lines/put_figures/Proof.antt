@@ -2,12 +2,12 @@
 -- Assumes nothing.
 use mathlib.Core.Path.{_∙_}
 use Rattle.text.proofs.LaidLaws.{end-of, laid-on}
-use Rattle.season_step.specs.Lines.{firstFigures, lastFigures, figuresText}
-use Rattle.season_step.proofs.LineLaws.{first-short}
+use Rattle.season_text.specs.Lines.{firstFigures, lastFigures, figuresText}
+use Rattle.season_text.proofs.LineLaws.{first-short}
 use borrow.Author.Needs.{needs}
 use native.Mathlib.Omega.{arith}
-use Rattle.season_step.proofs.lines.put_figures.Statement.{statement}
-use Rattle.season_step.proofs.lines.put_figures.Tie as tie
+use Rattle.season_text.proofs.lines.put_figures.Statement.{statement}
+use Rattle.season_text.proofs.lines.put_figures.Tie as tie
 
 put-first-requires : tie.Need-put-first-requires
 put-first-requires c κs = search needs

@@ -3,11 +3,11 @@
 use mathlib.Core.Path.{_∙_}
 use Rattle.text.specs.Line.{decimal}
 use Rattle.text.proofs.LaidLaws.{end-of, laid-on}
-use Rattle.season_step.specs.Lines.{named}
+use Rattle.season_text.specs.Lines.{named}
 use borrow.Author.Needs.{needs}
 use native.Mathlib.Omega.{arith}
-use Rattle.season_step.proofs.lines.put_named.Statement.{statement}
-use Rattle.season_step.proofs.lines.put_named.Tie as tie
+use Rattle.season_text.proofs.lines.put_named.Statement.{statement}
+use Rattle.season_text.proofs.lines.put_named.Tie as tie
 
 put-word-requires : tie.Need-put-word-requires
 put-word-requires c κs = search needs

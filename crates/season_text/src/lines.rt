@@ -6,7 +6,7 @@ ghost use mathlib.Core.Path.{_≡_};
 ghost use Prim.Native.Nat.{_+_, _≤_};
 ghost use lib.ListN.{length};
 ghost use Rattle.text.specs.Laid.{filled, laid};
-ghost use Rattle.season_step.specs.Lines.{named, firstFigures, lastFigures, figuresText, tableLine, refusedLine, endedLine, totalLine};
+ghost use Rattle.season_text.specs.Lines.{named, firstFigures, lastFigures, figuresText, tableLine, refusedLine, endedLine, totalLine};
 
 // A word, and a number after it.
 fn put_named(out: &mut [u8], at: usize, word: &[u8], n: u64) -> usize

@@ -2,11 +2,11 @@
 -- Assumes nothing.
 use mathlib.Core.Path.{_∙_}
 use Rattle.text.proofs.LaidLaws.{end-of, laid-on}
-use Rattle.season_step.specs.Lines.{totalWord, figuresText, totalLine}
+use Rattle.season_text.specs.Lines.{totalWord, figuresText, totalLine}
 use borrow.Author.Needs.{needs}
 use native.Mathlib.Omega.{arith}
-use Rattle.season_step.proofs.lines.put_total.Statement.{statement}
-use Rattle.season_step.proofs.lines.put_total.Tie as tie
+use Rattle.season_text.proofs.lines.put_total.Statement.{statement}
+use Rattle.season_text.proofs.lines.put_total.Tie as tie
 
 slice-aggregate-put-word : tie.Need-slice-aggregate-put-word
 slice-aggregate-put-word c = search needs
