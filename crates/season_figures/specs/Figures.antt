@@ -38,7 +38,8 @@ unfoldable pub figuresIn : List Record → Figures
 figuresIn [] = nothing
 figuresIn (r ∷ l) = sumOf (figuresOf r) (figuresIn l)
 
--- what is left of sums in their widths: 32 bits for updates and faults, 64 for seconds
+-- what is left of sums in their widths: 32 bits for updates and faults, 64 for seconds. A run never reaches their ends (theorem Exact), but
+-- whatever totals a step is handed, it has an answer.
 unfoldable pub inWidths : Figures → Figures
 inWidths f =
     record {
