@@ -3,17 +3,17 @@
 use mathlib.Core.Path.{_≡_, refl, sym, ap, _∙_}
 use mathlib.Core.Bool.{true}
 use mathlib.Core.List.{List, [], _∷_, _++_}
-use Prim.Native.Nat.{ℕ, zero, suc, _+_, _*_, _%_, _^_, _≤_, max}
+use Prim.Native.Nat.{ℕ, suc, _+_, _≤_}
 use native.Mathlib.Nat.{mod-eq-of-lt}
 use native.Mathlib.Omega.{arith}
 use lib.ListN.{length, drop}
 use Rattle.rules.proofs.RangeLaws.{base-reads}
-use Rattle.record_read.specs.Reading.{updateB, recordB}
+use Rattle.record_read.specs.Reading.{recordB}
 use Rattle.record_read.proofs.RuleLaws.{update-times}
 use Rattle.record.specs.declared.kinds.Record.{Record}
 use Rattle.record.specs.declared.kinds.Record.the-variants.{TimeUpdate, TimeFault}
 use Rattle.season_figures.specs.Figures.{nothing, figuresOf, sumOf, figuresIn, inWidths}
-use Rattle.season_figures.specs.Bounds.{widestMove, AllRight, Small}
+use Rattle.season_figures.specs.Bounds.{AllRight, Small}
 use Rattle.season_figures.specs.declared.figures.Figures.{Figures}
 
 abbrev figures : ℕ → ℕ → ℕ → ℕ → ℕ → Figures

@@ -1,7 +1,7 @@
 -- Season figures (change request E12): "updates taken, seconds moved forward, seconds moved back, faults, and the largest move either way,
 -- all exact". What one record comes to, two figures together, and a list of records.
 use mathlib.Core.List.{List, [], _∷_}
-use Prim.Native.Nat.{ℕ, _+_, _-_, _%_, _^_, max}
+use Prim.Native.Nat.{_+_, _-_, _%_, _^_, max}
 use Rattle.record.specs.declared.kinds.Record.{Record}
 use Rattle.record.specs.declared.kinds.Record.the-variants.{TimeUpdate, TimeFault}
 use Rattle.season_figures.specs.declared.figures.Figures.{Figures}

@@ -15,10 +15,9 @@ use table_sound::sound::sound;
 ghost use mathlib.Core.Path.{_≡_};
 ghost use mathlib.Core.Bool.{true};
 ghost use Prim.Native.Nat.{_+_, _≤_};
-ghost use lib.ListN.{length};
 ghost use Rattle.octets.specs.Choice.{pick};
 ghost use Rattle.table.specs.Table.{soundB};
-ghost use Rattle.season_step.specs.Step.{mostTables, beginning, tableBytes, wholeB, endsWith, taken, passedOver, stepOf, outcome, stepped};
+ghost use Rattle.season_step.specs.Step.{mostTables, beginning, tableBytes, wholeB, taken, passedOver, stepOf, outcome, stepped};
 
 // "Its size in four bytes", and "a table after the 65,535th ends the run".
 pub const SIZE_BYTES: usize = 4;

@@ -1,10 +1,9 @@
 -- What is done lies within the buffer; each turn reads at least a byte more. `io::count` bounds what a read answers.
 -- Assumes nothing.
-use mathlib.Core.Path.{_≡_, refl}
+use mathlib.Core.Path.{_≡_}
 use Prim.Native.Nat.{_-_, _≤_}
 use lib.ListN.{length}
 use borrow.Author.Needs.{needs}
-use native.Mathlib.Omega.{arith}
 use Rattle.season.proofs.read_part.Statement.{statement}
 use Rattle.season.proofs.read_part.Tie as tie
 

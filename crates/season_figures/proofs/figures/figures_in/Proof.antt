@@ -1,7 +1,7 @@
 -- What was summed and the figures of the records left are the table's together. So no sum is larger than the table's, which fits.
 -- Assumes nothing.
-use mathlib.Core.Path.{_≡_, sym, ap, _∙_}
-use Prim.Native.Nat.{_+_, _-_, _≤_}
+use mathlib.Core.Path.{_≡_, ap, _∙_}
+use Prim.Native.Nat.{_-_, _≤_}
 use lib.ListN.{drop}
 use Rattle.table.specs.Table.{count, held}
 use Rattle.season_figures.specs.Figures.{sumOf, figuresIn, inWidths}

@@ -1,9 +1,6 @@
 -- Each part as `beginning` has it.
 -- Assumes nothing.
-use mathlib.Core.Path.{_≡_, ap}
-use Rattle.season_figures.specs.declared.figures.Figures.{Figures}
 use Rattle.season_step.specs.Step.{beginning}
-use Rattle.season_step.specs.declared.step.Run.{Run}
 use borrow.Author.Needs.{needs}
 use Rattle.season_step.proofs.step.begun.Statement.{statement}
 use Rattle.season_step.proofs.step.begun.Tie as tie

@@ -1,7 +1,6 @@
 -- Too few bytes, a permitted size, another: each one law of StepLaws.
 -- Assumes nothing.
 use mathlib.Core.Path.{_≡_, sym, ap, _∙_}
-use mathlib.Core.Bool.{Bool}
 use Rattle.octets.specs.Numbers.{le32}
 use Rattle.table.specs.Table.{sizeB}
 use Rattle.season_step.proofs.StepLaws.{bytes-short, bytes-said}

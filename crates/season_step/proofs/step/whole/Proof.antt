@@ -1,9 +1,6 @@
 -- Too few bytes by StepLaws; else the two tests as they stand.
 -- Assumes nothing.
-use mathlib.Core.Path.{sym, ap, _∙_}
-use lib.Dec.{eqb}
-use lib.ListN.{length}
-use Rattle.table.specs.Table.{sizeB}
+use mathlib.Core.Path.{sym, _∙_}
 use Rattle.season_step.specs.Step.{wholeB}
 use Rattle.season_step.proofs.StepLaws.{whole-short}
 use borrow.Author.Needs.{needs}

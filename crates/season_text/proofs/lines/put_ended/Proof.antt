@@ -1,7 +1,7 @@
 -- The word and the position, and the line's end.
 -- Assumes nothing.
 use mathlib.Core.Path.{_∙_}
-use mathlib.Core.List.{[], _∷_, _++_}
+use mathlib.Core.List.{[], _∷_}
 use Rattle.text.proofs.LaidLaws.{end-of, laid-on}
 use Rattle.season_text.specs.Lines.{endedWord, named, endedLine}
 use Rattle.season_text.proofs.LineLaws.{named-short}

@@ -3,7 +3,6 @@
 use mathlib.Core.Path.{_∙_}
 use mathlib.Core.List.{_++_}
 use Prim.Native.Nat.{_+_, _≤_}
-use lib.ListN.{length}
 use Rattle.text.proofs.LaidLaws.{end-of, laid-on}
 use Rattle.season_text.specs.Lines.{updatesWord, forwardWord, backWord, named, firstFigures}
 use Rattle.season_text.proofs.LineLaws.{named-short}
