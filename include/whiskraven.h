@@ -121,7 +121,7 @@ extern "C" {
 #endif
 
 /* This header's version: see VERSION above. */
-#define DTS_VERSION_MAJOR 2
+#define DTS_VERSION_MAJOR 3
 #define DTS_VERSION_MINOR 0
 
 /* Sizes, in bytes. */
@@ -212,7 +212,10 @@ enum {
     DTS_DTCP_RESPONSE_OPCODE = 9
 };
 
-/* Flags of a proposed time, which follow the opcode; the other bits are ignored. */
+/*
+ * Flags of a proposed time, which follow the opcode; the other bits are ignored. Qualified local counts only
+ * with UTC aligned, a known zone and DST, and a source that can vouch for them: not 0, 3 (radio time), 4 or 7.
+ */
 enum {
     DTS_FLAG_UTC_ALIGNED = 0x0001,
     DTS_FLAG_QUALIFIED_LOCAL = 0x0002,

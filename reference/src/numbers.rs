@@ -14,6 +14,8 @@ pub struct Numbers {
     pub last_source: u8,
     /// Sources whose accuracy is logged and stored as 255 (Section 3.4.1.14).
     pub sources_without_accuracy: [u8; 2],
+    /// Sources that can't vouch for the time zone: their times stop at grade 2 (change request E2).
+    pub sources_without_zone: &'static [u8],
     /// The fault count stays here.
     pub last_fault_count: u16,
     /// A proposal further from a UTC-aligned clock than this is unrealistic.
@@ -48,6 +50,7 @@ pub const PAPER: Numbers = Numbers {
     last_zone: 56,
     last_source: 7,
     sources_without_accuracy: [0, 4],
+    sources_without_zone: &[0, 3, 4, 7],
     last_fault_count: 65_535,
     realistic_seconds: 86_400,
     most_slots: 1_023,

@@ -1,6 +1,6 @@
 // What is promised of time updates beyond each call's own equation: each the promise of an empty function,
 // so that the check asks for its proof.
-ghost use Rattle.theorems_calls.specs.OfUpdate.{GroundsAlone, AllGrounds};
+ghost use Rattle.theorems_calls.specs.OfUpdate.{GroundsAlone, AllGrounds, RadioTime};
 ghost use Rattle.theorems_calls.specs.UpdateCases.{Computed};
 
 pub fn grounds_alone()
@@ -9,6 +9,10 @@ pub fn grounds_alone()
 
 pub fn all_grounds()
     ensures { λ _. ⌜ AllGrounds ⌝ }
+{}
+
+pub fn radio_time()
+    ensures { λ _. ⌜ RadioTime ⌝ }
 {}
 
 pub fn computed()

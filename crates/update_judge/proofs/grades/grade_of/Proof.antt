@@ -1,6 +1,8 @@
 -- `grade_of` is `gradeOf`, flag by flag.
 -- Assumes nothing.
+use mathlib.Core.Path.{sym, _∙_}
 use borrow.Author.Tests.{eq-eqb, ne-eqb}
+use borrow.Author.Needs.{needs}
 use Rattle.update_judge.specs.Grades.{localB, gradeOf}
 use Rattle.update_judge.proofs.grades.grade_of.Statement.{statement}
 use Rattle.update_judge.proofs.grades.grade_of.Tie as tie
@@ -28,16 +30,36 @@ returns-4 c =
       eq-eqb _ _ (c .if4 .taken),
     )
 
+stops-at-two-requires : tie.Need-stops-at-two-requires
+stops-at-two-requires c κs = search needs
+
 returns-5 : tie.Need-returns-5
 unfolding gradeOf localB
 returns-5 c =
-    let b = c .before .before in
+    let four = c .before .before in
+    let three = four .before .before in
+    let two = three .before .before in
     simp (
-      eq-eqb _ _ (b .before .before .before .if1 .left),
-      eq-eqb _ _ (b .before .before .if2 .left),
-      ne-eqb _ _ (b .if3 .left),
-      ne-eqb _ _ (c .if4 .left),
+      eq-eqb _ _ (two .before .if1 .left),
+      eq-eqb _ _ (two .if2 .left),
+      ne-eqb _ _ (three .if3 .left),
+      ne-eqb _ _ (four .if4 .left),
+      sym (c .before .stops-at-two .ensures) ∙ c .if5 .taken,
+    )
+
+returns-6 : tie.Need-returns-6
+unfolding gradeOf localB
+returns-6 c =
+    let four = c .before .before in
+    let three = four .before .before in
+    let two = three .before .before in
+    simp (
+      eq-eqb _ _ (two .before .if1 .left),
+      eq-eqb _ _ (two .if2 .left),
+      ne-eqb _ _ (three .if3 .left),
+      ne-eqb _ _ (four .if4 .left),
+      sym (c .before .stops-at-two .ensures) ∙ c .if5 .left,
     )
 
 pub grade-of-spec : {M : Type 1} → statement M
-grade-of-spec = tie.close (tie.spec returns returns-2 returns-3 returns-4 returns-5)
+grade-of-spec = tie.close (tie.spec returns returns-2 returns-3 returns-4 stops-at-two-requires returns-5 returns-6)
