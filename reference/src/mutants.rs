@@ -17,7 +17,6 @@ pub const MUTANTS: &[Mutant] = &[
     Mutant { name: "86,401 seconds are realistic", spoil: |n| n.realistic_seconds = 86_401 },
     Mutant { name: "source 7 reaches grade 3", spoil: |n| n.sources_without_zone = &[0, 3, 4] },
     Mutant { name: "GPS stops at grade 2", spoil: |n| n.sources_without_zone = &[0, 2, 3, 4, 7] },
-    Mutant { name: "source 8 stops at grade 2", spoil: |n| n.sources_without_zone = &[0, 3, 4, 7, 8] },
     Mutant { name: "counter 62, then 0", spoil: |n| n.counters = 63 },
     Mutant { name: "fault count stays at 65,534", spoil: |n| n.last_fault_count = 65_534 },
     Mutant { name: "records of at most 44 bytes", spoil: |n| n.record_bytes = 44 },
@@ -33,6 +32,10 @@ pub const MUTANTS: &[Mutant] = &[
     Mutant { name: "zone up to 57", spoil: |n| n.last_zone = 57 },
     Mutant { name: "zone from -47", spoil: |n| n.first_zone = -47 },
     Mutant { name: "source up to 8", spoil: |n| n.last_source = 8 },
+    Mutant {
+        name: "source 8 stops at grade 2",
+        spoil: |n| n.sources_without_zone = &[0, 3, 4, 7, 8],
+    },
     Mutant { name: "N up to 1,022", spoil: |n| n.most_slots = 1_022 },
     Mutant { name: "output of 19 bytes", spoil: |n| n.smallest_output = 19 },
     Mutant { name: "writes of up to 21 bytes", spoil: |n| n.longest_write = 21 },
