@@ -20,6 +20,6 @@ localB p = both (eqb (localFlag (p .flags)) 1) (both (not (eqb (p .zone) unknown
 abbrev pub stopsAtTwo : ℕ → Bool
 stopsAtTwo s = either (eqb s 0) (either (eqb s 3) (either (eqb s 4) (eqb s 7)))
 
--- "Grade of a proposal: 1; 2 with its UTC flag; 3 if besides" the above holds, and its source may.
+-- "Grade of a proposal: 1; 2 with its UTC flag; 3 if besides" the above holds, and its source doesn't stop it at 2.
 unfoldable pub gradeOf : Proposal → ℕ
 gradeOf p = pick (eqb (utcFlag (p .flags)) 1) (pick (both (localB p) (not (stopsAtTwo (p .source)))) 3 2) 1
