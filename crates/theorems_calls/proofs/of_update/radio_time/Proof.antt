@@ -2,16 +2,15 @@
 -- Assumes nothing.
 use mathlib.Core.Path.{_≡_, refl, sym}
 use mathlib.Core.Bool.{Bool, true, false}
-use Prim.Native.Nat.{ℕ, _<_}
-use lib.Dec.{ltb, eqb}
+use Prim.Native.Nat.{ℕ, _<_, _≤_}
+use lib.Dec.{eqb}
 use native.Mathlib.Omega.{arith}
-use borrow.Author.Tests.{eqb-true, eqb-false}
+use borrow.Author.Tests.{lt-ltb, eqb-true, eqb-false}
 use Rattle.octets.specs.Choice.{pick}
 use Rattle.rules.specs.Fields.{alignedBit, qualifiedBit}
 use Rattle.clock.specs.declared.state.Clock.{Clock}
-use Rattle.clock.specs.declared.state.Time.{Time}
 use Rattle.update_judge.specs.Proposal.{utcFlag}
-use Rattle.update_judge.specs.Grades.{clockGrade, stopsAtTwo}
+use Rattle.update_judge.specs.Grades.{clockGrade, stopsAtTwo, gradeOf}
 use Rattle.update_judge.specs.Grounds.{flagIf, lowerB}
 use Rattle.update_judge.specs.declared.proposal.Proposal.{Proposal}
 use Rattle.update_judge.proofs.GradeLaws.{grade-stops, grade-goes-on, grade-by-flag}
@@ -20,13 +19,12 @@ use Rattle.theorems_calls.specs.OfUpdate.{statusIn}
 use Rattle.theorems_calls.proofs.of_update.radio_time.Statement.{statement}
 use Rattle.theorems_calls.proofs.of_update.radio_time.Tie as tie
 
-lower : (t : Time) (p : Proposal) → stopsAtTwo (p .source) ≡ true → clockGrade (t .status) ≡ 3 → lowerB t p ≡ true
-unfolding lowerB
-lower t p h three = rw (grade-stops p h, three) (go (eqb (utcFlag (p .flags)) 1))
+at-most-two : (p : Proposal) → stopsAtTwo (p .source) ≡ true → gradeOf p ≤ 2
+at-most-two p h = rw (grade-stops p h) (go (eqb (utcFlag (p .flags)) 1))
   where
-    go : (utc : Bool) → ltb (pick utc 2 1) 3 ≡ true
-    go true = refl
-    go false = refl
+    go : (utc : Bool) → pick utc 2 1 ≤ 2
+    go true = omega arith
+    go false = omega arith
 
 unqualified : (c : Clock) (p : Proposal) → stopsAtTwo (p .source) ≡ true → qualifiedBit (acceptedOf c p .time .status) ≡ 0
 unfolding acceptedOf statusAfter flagIf
@@ -57,12 +55,12 @@ unfolding acceptedOf alignedAfter
 last c p = let g = grade-by-flag p in rw (g .1, two-or-three (eqb (utcFlag (p .flags)) 1) (g .0))
 
 returns : tie.Need-returns
-unfolding acceptedOf updateRecord statusIn
+unfolding lowerB acceptedOf updateRecord statusIn
 returns c =
     record {
       stops = grade-stops;
       others = grade-goes-on;
-      lower = lower;
+      lower = λ t p h three. let most = at-most-two p h in lt-ltb (gradeOf p) (clockGrade (t .status)) (omega arith);
       unqualified = unqualified;
       logged = λ c p number. refl;
       aligned = aligned;
