@@ -7,7 +7,7 @@ use Rattle.octets.specs.Choice.{both}
 use Rattle.octets.proofs.Tests.{both-yes, both-reads}
 use Rattle.rules.specs.Fields.{baseB, zoneB, dstB, sourceB, statusB}
 use Rattle.rules.proofs.RangeLaws.{base-reads, base-makes}
-use Rattle.clock.specs.Obeys.{opcodeB, filterB, lastCounter, counterB, reportB, runningB, timeB, clockB, TimeRules, Rules, ReportRules}
+use Rattle.clock.specs.Obeys.{opcodeB, lastCounter, counterB, reportB, runningB, timeB, clockB, TimeRules, Rules, ReportRules}
 use Rattle.clock.specs.declared.state.Clock.{Clock}
 use Rattle.clock.specs.declared.state.Report.{Report}
 use Rattle.clock.specs.declared.state.Running.the-variants.{Reporting}
@@ -59,10 +59,9 @@ clock-makes c r = both-yes (time-makes (c .time) (r .time)) ∙ r .running
 pub running-reads : (r : Report) → runningB (Reporting r) ≡ true → ReportRules r
 unfolding runningB reportB counterB
 running-reads r h =
-    let x = both-reads (opcodeB (r .opcode)) _ h in
-    let y = both-reads (filterB (r .filter)) (counterB (r .counter)) (x .1) in
-    record { opcode = x .0; filter = y .0; counter = leb-true (r .counter) lastCounter (y .1) }
+    let x = both-reads (opcodeB (r .opcode)) (counterB (r .counter)) h in
+    record { opcode = x .0; counter = leb-true (r .counter) lastCounter (x .1) }
 
 pub running-makes : (r : Report) → ReportRules r → runningB (Reporting r) ≡ true
 unfolding runningB reportB counterB
-running-makes r h = simp (h .opcode, h .filter, le-leb (r .counter) lastCounter (h .counter))
+running-makes r h = simp (h .opcode, le-leb (r .counter) lastCounter (h .counter))

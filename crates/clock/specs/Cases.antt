@@ -8,7 +8,7 @@ use Rattle.filter.specs.declared.filter.Filter.{Filter}
 use Rattle.filter.specs.declared.filter.Filter.the-variants.{All, Range}
 use Rattle.clock.specs.Answers.{numberOf}
 use Rattle.rules.specs.Fields.{baseB, zoneB, dstB, sourceB, statusB, bitsB}
-use Rattle.clock.specs.Obeys.{opcodeB, filterB, counterB, reportB, runningB, timeB, clockB}
+use Rattle.clock.specs.Obeys.{opcodeB, counterB, reportB, runningB, timeB, clockB}
 use Rattle.clock.specs.Events.{unlessBroken, withBase, onOff, disconnected, secondsOf, switchesOf, disconnectOf}
 use Rattle.clock.specs.declared.events.Event.{Event}
 use Rattle.clock.specs.declared.state.Clock.{Clock}
@@ -39,7 +39,7 @@ pub record Outcome : Type 0 where
   pub clock : Clock
 
 unfoldable pub eventOf : Clock → Call → Event
-unfolding secondsOf switchesOf disconnectOf unlessBroken withBase disconnected clockB timeB runningB reportB opcodeB filterB counterB baseB zoneB dstB sourceB statusB bitsB
+unfolding secondsOf switchesOf disconnectOf unlessBroken withBase disconnected clockB timeB runningB reportB opcodeB counterB baseB zoneB dstB sourceB statusB bitsB
 eventOf c (seconds n) = secondsOf c n
 eventOf c (switches dtcp racp log) = switchesOf c dtcp racp log
 eventOf c disconnect = disconnectOf c
@@ -97,8 +97,8 @@ table =
     ∷ done (on 631152000 128 255 0 17 0x19 631152000 Idle) (seconds 5) (on 631152005 128 255 0 17 0x19 631152000 Idle)
     -- SE21: 2 before 7
     ∷ refused (on 3155760000 128 255 0 255 0x19 631152000 Idle) (seconds 1) 2
-    -- SE22 to SE24: the report's filter, opcode and counter
-    ∷ refused (on 631152000 128 255 0 255 0x19 631152000 (report 1 (Range 5 3) 0 0)) (seconds 0) 2
+    -- SE22 to SE24: any filter of the report, not any opcode or counter
+    ∷ done (on 631152000 128 255 0 255 0x19 631152000 (report 1 (Range 5 3) 0 0)) (seconds 0) (on 631152000 128 255 0 255 0x19 631152000 (report 1 (Range 5 3) 0 0))
     ∷ refused (on 631152000 128 255 0 255 0x19 631152000 (report 2 All 0 0)) (seconds 0) 2
     ∷ refused (on 631152000 128 255 0 255 0x19 631152000 (report 1 All 64 0)) (seconds 0) 2
     -- SE25, SE27: the next record is not looked at, and disconnect ends the report

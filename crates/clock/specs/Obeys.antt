@@ -7,8 +7,6 @@ use lib.Dec.{leb, eqb}
 use Rattle.octets.specs.Choice.{both, either}
 use Rattle.rules.specs.Fields.{firstBaseTime, lastBaseTime, baseB, zoneB, dstB, sourceB, statusB}
 use Rattle.codes.specs.Racp.{reportOpcode, combinedOpcode}
-use Rattle.filter.specs.declared.filter.Filter.{Filter}
-use Rattle.filter.specs.declared.filter.Filter.the-variants.{All, AtMost, AtLeast, Range, First, Last}
 use Rattle.clock.specs.declared.state.Clock.{Clock}
 use Rattle.clock.specs.declared.state.Report.{Report}
 use Rattle.clock.specs.declared.state.Running.{Running}
@@ -19,15 +17,6 @@ use Rattle.clock.specs.declared.state.Time.{Time}
 unfoldable pub opcodeB : ℕ → Bool
 opcodeB o = either (eqb o reportOpcode) (eqb o combinedOpcode)
 
--- "a filter that passes the checks below": only a range can fail, with its "minimum above maximum"
-unfoldable pub filterB : Filter → Bool
-filterB All = true
-filterB (AtMost max) = true
-filterB (AtLeast min) = true
-filterB (Range min max) = leb min max
-filterB First = true
-filterB Last = true
-
 abbrev pub lastCounter : ℕ
 lastCounter = 63
 
@@ -35,8 +24,10 @@ lastCounter = 63
 unfoldable pub counterB : ℕ → Bool
 counterB n = leb n lastCounter
 
+-- "a filter that passes the checks below": each does, an operator of 1 to 6 with its values, since "response 0x05 for minimum above maximum
+-- goes" (change request E1)
 unfoldable pub reportB : Report → Bool
-reportB r = both (opcodeB (r .opcode)) (both (filterB (r .filter)) (counterB (r .counter)))
+reportB r = both (opcodeB (r .opcode)) (counterB (r .counter))
 
 unfoldable pub runningB : Running → Bool
 runningB Idle = true
@@ -70,5 +61,4 @@ pub record Rules (c : Clock) : Type 0 where
 
 pub record ReportRules (r : Report) : Type 0 where
   pub opcode : opcodeB (r .opcode) ≡ true
-  pub filter : filterB (r .filter) ≡ true
   pub counter : r .counter ≤ lastCounter

@@ -6,7 +6,6 @@ use crate::state::Running;
 use crate::state::Time;
 use codes::racp::COMBINED_OPCODE;
 use codes::racp::REPORT_OPCODE;
-use filter::filter::Filter;
 use octets::choice::both;
 use rules::fields::base_ok;
 use rules::fields::dst_ok;
@@ -14,7 +13,7 @@ use rules::fields::source_ok;
 use rules::fields::status_ok;
 use rules::fields::zone_ok;
 ghost use mathlib.Core.Path.{_≡_};
-ghost use Rattle.clock.specs.Obeys.{opcodeB, filterB, reportB, runningB, timeB, clockB};
+ghost use Rattle.clock.specs.Obeys.{opcodeB, reportB, runningB, timeB, clockB};
 
 // The last value of a notification's counter.
 pub const LAST_COUNTER: u8 = 63;
@@ -28,29 +27,11 @@ fn opcode_ok(opcode: u8) -> bool
     }
 }
 
-// Also the last check of a filter that is asked for (document 01, "RACP and notifications"): a range's
-// minimum is not above its maximum. Refuses nothing.
-pub fn filter_ok(f: Filter) -> bool
-    ensures { λ r. ⌜ r ≡ filterB f ⌝ }
-{
-    match f {
-        Filter::All => true,
-        Filter::AtMost(_) => true,
-        Filter::AtLeast(_) => true,
-        Filter::Range(min, max) => min <= max,
-        Filter::First => true,
-        Filter::Last => true,
-    }
-}
-
+// The opcode and the counter; any filter does.
 fn report_ok(report: Report) -> bool
     ensures { λ r. ⌜ r ≡ reportB report ⌝ }
 {
-    let filter = report.filter;
-    both(
-        opcode_ok(report.opcode),
-        both(filter_ok(filter), report.counter <= LAST_COUNTER),
-    )
+    both(opcode_ok(report.opcode), report.counter <= LAST_COUNTER)
 }
 
 fn running_ok(running: Running) -> bool

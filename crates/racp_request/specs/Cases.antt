@@ -1,11 +1,10 @@
 -- Cases of writes to the Record Access Control Point, run by the checker on the definitions that the calls' promises cite. RA1 to RA63 are
--- test vectors worked out from document 01 apart from these definitions; a write that stands twice among them stands here once, and RA55's
+-- test vectors worked out from document 01 and change request E1 apart from these definitions; a write that stands twice among them stands here once, and RA55's
 -- is refused before it is read. What a request comes to on a table is no matter of this crate.
 use mathlib.Core.Path.{_≡_}
 use mathlib.Core.List.{List, [], _∷_, map}
 use Prim.Native.Nat.{ℕ}
 use Rattle.filter.specs.declared.filter.Filter.the-variants.{All, AtMost, AtLeast, Range, First, Last}
-use Rattle.clock.specs.Obeys.{filterB}
 use Rattle.codes.specs.Response.{codeOf, codeBytes}
 use Rattle.racp_request.specs.Request.{opcodeIn, operandBytes, typedB, filterAt, filterOperand, askedOf, abortOf, requestOf}
 use Rattle.racp_request.specs.declared.request.Request.{Request}
@@ -29,7 +28,7 @@ refused w b = record { write = w; outcome = answers b }
 
 -- `requestOf` with all that it cites laid open, for the checker to compute
 unfoldable pub requested : List ℕ → Request
-unfolding requestOf askedOf abortOf filterOperand filterAt typedB operandBytes filterB
+unfolding requestOf askedOf abortOf filterOperand filterAt typedB operandBytes
 requested w = requestOf w
 
 unfoldable pub done : ℕ → Request → Outcome
@@ -83,11 +82,11 @@ table =
     ∷ refused (0x03 ∷ 0x00 ∷ 0x00 ∷ []) (0x06 ∷ 0x00 ∷ 0x03 ∷ 0x05 ∷ [])
     -- RA29: the length before the filter type
     ∷ refused (0x04 ∷ 0x02 ∷ 0x02 ∷ []) (0x06 ∷ 0x00 ∷ 0x04 ∷ 0x05 ∷ [])
-    -- RA30, RA31: the filter type, before the order of a range
+    -- RA30, RA31: the filter type
     ∷ refused (0x04 ∷ 0x02 ∷ 0x02 ∷ 0x01 ∷ 0x00 ∷ []) (0x06 ∷ 0x00 ∷ 0x04 ∷ 0x09 ∷ [])
     ∷ refused (0x04 ∷ 0x04 ∷ 0x02 ∷ 0x05 ∷ 0x00 ∷ 0x03 ∷ 0x00 ∷ []) (0x06 ∷ 0x00 ∷ 0x04 ∷ 0x09 ∷ [])
-    -- RA32: a range's minimum above its maximum
-    ∷ refused (0x01 ∷ 0x04 ∷ 0x01 ∷ 0x05 ∷ 0x00 ∷ 0x03 ∷ 0x00 ∷ []) (0x06 ∷ 0x00 ∷ 0x01 ∷ 0x05 ∷ [])
+    -- RA32: a range's minimum above its maximum goes on
+    ∷ asks (0x01 ∷ 0x04 ∷ 0x01 ∷ 0x05 ∷ 0x00 ∷ 0x03 ∷ 0x00 ∷ []) (Report (Range 5 3))
     -- RA33 to RA46: the six operators with their values
     ∷ asks (0x04 ∷ 0x01 ∷ []) (Number All)
     ∷ asks (0x04 ∷ 0x05 ∷ []) (Number First)
@@ -104,11 +103,11 @@ table =
     ∷ asks (0x01 ∷ 0x06 ∷ []) (Report Last)
     -- RA47: Abort
     ∷ asks (0x03 ∷ 0x00 ∷ []) Abort
-    -- RA58 to RA63: numbers of two bytes; a range over the turn of the numbers is refused
+    -- RA58 to RA63: numbers of two bytes; a range over the turn of the numbers goes on
     ∷ asks (0x04 ∷ 0x03 ∷ 0x01 ∷ 0xff ∷ 0xff ∷ []) (Number (AtLeast 65535))
     ∷ asks (0x04 ∷ 0x02 ∷ 0x01 ∷ 0x01 ∷ 0x00 ∷ []) (Number (AtMost 1))
     ∷ asks (0x04 ∷ 0x04 ∷ 0x01 ∷ 0x00 ∷ 0x00 ∷ 0xff ∷ 0xff ∷ []) (Number (Range 0 65535))
-    ∷ refused (0x04 ∷ 0x04 ∷ 0x01 ∷ 0xfe ∷ 0xff ∷ 0x01 ∷ 0x00 ∷ []) (0x06 ∷ 0x00 ∷ 0x04 ∷ 0x05 ∷ [])
+    ∷ asks (0x04 ∷ 0x04 ∷ 0x01 ∷ 0xfe ∷ 0xff ∷ 0x01 ∷ 0x00 ∷ []) (Number (Range 65534 1))
     ∷ asks (0x01 ∷ 0x02 ∷ 0x01 ∷ 0x01 ∷ 0x00 ∷ []) (Report (AtMost 1))
     ∷ asks (0x01 ∷ 0x04 ∷ 0x01 ∷ 0x00 ∷ 0x00 ∷ 0xff ∷ 0xff ∷ []) (Report (Range 0 65535))
     ∷ []
