@@ -17,7 +17,7 @@ use Rattle.table_write.specs.Append.{placeOf, slotOf, headerAfter, appendOf}
 use Rattle.table_look.specs.Matching.{firstFrom, nextMatch, matchingFrom, matching}
 use Rattle.clock.specs.Answers.{numberOf}
 use Rattle.clock.specs.Events.{unlessBroken, withBase, disconnected, secondsOf, switchesOf, disconnectOf}
-use Rattle.clock.specs.Obeys.{opcodeB, filterB, counterB, reportB, clockB, timeB}
+use Rattle.clock.specs.Obeys.{opcodeB, counterB, reportB, clockB, timeB}
 use Rattle.clock.specs.Obeys as clocks
 use Rattle.clock.specs.State.{newReader}
 use Rattle.update_decide.specs.Accept.{statusAfter, alignedAfter, accuracyOf, acceptedOf, loggedB, updateRecord}
@@ -55,7 +55,7 @@ use Rattle.loading_day.specs.Page.{linesOf, eveningOf, sheetOf}
 
 -- the ramp in the evening
 unfoldable pub theRamp : Ramp
-unfolding playedOf theDay openedOf steppedOf livedOf startedOf proposalBytes withClock setOf failedOf readers.readOf newReaderOf startOf fresh newReader secondsOf withBase switchesOf disconnectOf disconnected unlessBroken faultOf faultedOf faultRecord countAfter endingOf updateOf updateRows firstFailed tableRows writeRows wholeB rows.runningWholeB leftB doneB numberOf clockB timeB clocks.runningB reportB opcodeB filterB counterB baseB zoneB dstB sourceB statusB bitsB soundB headB sizeB startB emptyB fieldsB zerosB slot bytesIn recordIn slots ring held slotB rowB wellFormedB shapeB sizedB recordB updateB faultB recordOf updateRead faultRead sequenceOf matchesB decideOf updateOperand judged proposalAt groundsOf flagIf epochB rangeB lowerB unrealisticB secondsApart gradeOf localB clockGrade effectOf afterDecision acceptedOf statusAfter alignedAfter accuracyOf tableAfter loggedB updateRecord appendOf steps placeOf slotOf headerAfter bytesOf updateBytes faultBytes responseBytes answered over
+unfolding playedOf theDay openedOf steppedOf livedOf startedOf proposalBytes withClock setOf failedOf readers.readOf newReaderOf startOf fresh newReader secondsOf withBase switchesOf disconnectOf disconnected unlessBroken faultOf faultedOf faultRecord countAfter endingOf updateOf updateRows firstFailed tableRows writeRows wholeB rows.runningWholeB leftB doneB numberOf clockB timeB clocks.runningB reportB opcodeB counterB baseB zoneB dstB sourceB statusB bitsB soundB headB sizeB startB emptyB fieldsB zerosB slot bytesIn recordIn slots ring held slotB rowB wellFormedB shapeB sizedB recordB updateB faultB recordOf updateRead faultRead sequenceOf matchesB decideOf updateOperand judged proposalAt groundsOf flagIf epochB rangeB lowerB unrealisticB secondsApart gradeOf localB clockGrade effectOf afterDecision acceptedOf statusAfter alignedAfter accuracyOf tableAfter loggedB updateRecord appendOf steps placeOf slotOf headerAfter bytesOf updateBytes faultBytes responseBytes answered over
 theRamp = playedOf openedOf theDay
 
 -- the text of its sheet

@@ -26,7 +26,6 @@ use Rattle.table_look.specs.declared.matching.Found.the-variants as found
 use Rattle.table_look.proofs.LookLaws.{drop-held, none-left}
 use Rattle.clock.specs.State.{newReader}
 use Rattle.clock.specs.Events.{withBase, disconnected}
-use Rattle.clock.specs.Obeys.{filterB}
 use Rattle.clock.specs.declared.events.Event.{Event}
 use Rattle.clock.specs.declared.state.Clock.{Clock}
 use Rattle.clock.specs.declared.state.Left.{Left}
@@ -122,9 +121,8 @@ asked-fits w h =
     (ltb 6 (operatorIn w))
     (eqb (length w) (2 + operandBytes (operatorIn w)))
     (typedB w)
-    (filterB (filterAt w))
   where
-    go : (none null other size typed ok : Bool)
+    go : (none null other size typed : Bool)
         → AskedFits
         (pick none
         (asked.Refused InvalidOperator)
@@ -133,15 +131,14 @@ asked-fits w h =
         (pick other
         (asked.Refused OperatorNotSupported)
         (pick size
-        (pick typed (pick ok (asked.For (filterAt w)) (asked.Refused InvalidOperand)) (asked.Refused OperandNotSupported))
+        (pick typed (asked.For (filterAt w)) (asked.Refused OperandNotSupported))
         (asked.Refused InvalidOperand)))))
-    go true null other size typed ok = tt
-    go false true other size typed ok = tt
-    go false false true size typed ok = tt
-    go false false false false typed ok = tt
-    go false false false true false ok = tt
-    go false false false true true false = tt
-    go false false false true true true = filter-fits w h
+    go true null other size typed = tt
+    go false true other size typed = tt
+    go false false true size typed = tt
+    go false false false false typed = tt
+    go false false false true false = tt
+    go false false false true true = filter-fits w h
 
 report-fits : (w : List ℕ) (f : Filter) → Bytes w → requestOf w ≡ ReportOf f → FilterFits f
 report-fits w f h q = subst AskedFits (report-reads w f q .1) (asked-fits w h)

@@ -13,7 +13,6 @@ use Rattle.filter.specs.declared.filter.Filter.{Filter}
 use Rattle.table_look.specs.Matching.{matching}
 use Rattle.clock.specs.State.{withRunning}
 use Rattle.clock.specs.Answers.{numberOf}
-use Rattle.clock.specs.Obeys.{filterB}
 use Rattle.clock.specs.declared.answers.Answer.{Answer}
 use Rattle.clock.specs.declared.answers.Answer.the-variants.{Done}
 use Rattle.clock.specs.declared.state.Clock.{Clock}
@@ -112,9 +111,9 @@ Other (Refused k) = other k ≡ false
 
 asked-other : (w : List ℕ) → AskedOther (askedOf w)
 unfolding askedOf filterOperand codeOf
-asked-other w = go (ltb (length w) 2) (eqb (operatorIn w) 0) (ltb 6 (operatorIn w)) (eqb (length w) (2 + operandBytes (operatorIn w))) (typedB w) (filterB (filterAt w))
+asked-other w = go (ltb (length w) 2) (eqb (operatorIn w) 0) (ltb 6 (operatorIn w)) (eqb (length w) (2 + operandBytes (operatorIn w))) (typedB w)
   where
-    go : (none null high size typed ok : Bool)
+    go : (none null high size typed : Bool)
         → AskedOther
         (pick none
         (asked.Refused InvalidOperator)
@@ -123,15 +122,14 @@ asked-other w = go (ltb (length w) 2) (eqb (operatorIn w) 0) (ltb 6 (operatorIn 
         (pick high
         (asked.Refused OperatorNotSupported)
         (pick size
-        (pick typed (pick ok (asked.For (filterAt w)) (asked.Refused InvalidOperand)) (asked.Refused OperandNotSupported))
+        (pick typed (asked.For (filterAt w)) (asked.Refused OperandNotSupported))
         (asked.Refused InvalidOperand)))))
-    go true null high size typed ok = refl
-    go false true high size typed ok = refl
-    go false false true size typed ok = refl
-    go false false false false typed ok = refl
-    go false false false true false ok = refl
-    go false false false true true false = refl
-    go false false false true true true = refl
+    go true null high size typed = refl
+    go false true high size typed = refl
+    go false false true size typed = refl
+    go false false false false typed = refl
+    go false false false true false = refl
+    go false false false true true = refl
 
 abort-other : (w : List ℕ) → Other (abortOf w)
 unfolding abortOf codeOf

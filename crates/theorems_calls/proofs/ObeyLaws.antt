@@ -22,7 +22,7 @@ use Rattle.table_look.specs.declared.matching.Found.the-variants as found
 use Rattle.table.proofs.SlotLaws.{slotAt}
 use Rattle.table_look.proofs.LookLaws.{age-held, drop-held}
 use Rattle.clock.specs.State.{withRunning}
-use Rattle.clock.specs.Obeys.{opcodeB, filterB, clockB}
+use Rattle.clock.specs.Obeys.{opcodeB, clockB}
 use Rattle.clock.specs.Obeys as rules
 use Rattle.clock.specs.declared.state.Clock.{Clock}
 use Rattle.clock.specs.declared.state.Left.{Left}
@@ -38,7 +38,7 @@ use Rattle.rows.proofs.RowLaws.{whole-reads, whole-with}
 use Rattle.racp_request.specs.Request.{opcodeIn, requestOf}
 use Rattle.racp_request.specs.declared.request.Request.{Request}
 use Rattle.racp_request.specs.declared.request.Request.the-variants as request
-use Rattle.racp_request.proofs.RequestLaws.{report-reads, asked-for}
+use Rattle.racp_request.proofs.RequestLaws.{report-reads}
 use Rattle.racp_access.specs.Report.{firstNumber, firstBytes, leftAt, leftFrom}
 use Rattle.racp_access.specs.Access.{accessRows, accessed, begunOf, abortedOf, accessedOf, accessOf}
 use Rattle.racp_notify.specs.Notify.{lastB, leftAfter, notifyRows, saidOf, unsaid, noticed, runningNotice, notifyOf}
@@ -123,7 +123,7 @@ unfolding saidOf
 said-obeys c t q r sd ok k Nothing h = idle-obeys c t ok
 said-obeys c t q r sd ok k (From n sent) h =
     report-obeys c t _ ok
-    (record { opcode = k .opcode; filter = k .filter; counter = omega arith })
+    (record { opcode = k .opcode; counter = omega arith })
     (after-obeys (r .filter) t q n sent sd (left-reads t (r .filter) n sent h))
 
 running-said : (c : Clock) (t : List ℕ) (p : ℕ) (o : List ℕ) → soundB t ≡ true → wholeB c t ≡ true → (r : Running) → c .running ≡ r
@@ -146,12 +146,12 @@ notify-obeys c t p o sd w = go (doneB (firstFailed (notifyRows c t p o)))
     go false = w
 
 -- record access
-begun-obeys : (c : Clock) (t : List ℕ) (opcode : ℕ) (f : Filter) → wholeB c t ≡ true → opcodeB opcode ≡ true → filterB f ≡ true
+begun-obeys : (c : Clock) (t : List ℕ) (opcode : ℕ) (f : Filter) → wholeB c t ≡ true → opcodeB opcode ≡ true
     → (l : Left) → leftB t f l ≡ true → wholeB (begunOf c opcode f l .clock) t ≡ true
 unfolding begunOf accessed
-begun-obeys c t opcode f w ho hf Nothing h = w
-begun-obeys c t opcode f w ho hf (From n sent) h =
-    report-obeys c t _ (whole-reads c t w .0) (record { opcode = ho; filter = hf; counter = omega arith }) h
+begun-obeys c t opcode f w ho Nothing h = w
+begun-obeys c t opcode f w ho (From n sent) h =
+    report-obeys c t _ (whole-reads c t w .0) (record { opcode = ho; counter = omega arith }) h
 
 aborted-obeys : (c : Clock) (t : List ℕ) → wholeB c t ≡ true → (r : Running) → wholeB (abortedOf c r .clock) t ≡ true
 unfolding abortedOf accessed
@@ -162,8 +162,7 @@ accessed-obeys : (c : Clock) (t w : List ℕ) → soundB t ≡ true → wholeB c
     → wholeB (accessedOf c t (opcodeIn w) r .clock) t ≡ true
 unfolding accessedOf accessed
 accessed-obeys c t w sd h (request.Report f) e =
-    let x = report-reads w f e in
-    begun-obeys c t (opcodeIn w) f h (x .0) (asked-for w f (x .1)) (leftFrom f t 0) (left-from-obeys f t 0 sd)
+    begun-obeys c t (opcodeIn w) f h (report-reads w f e .0) (leftFrom f t 0) (left-from-obeys f t 0 sd)
 accessed-obeys c t w sd h (request.Number f) e = h
 accessed-obeys c t w sd h request.Abort e = aborted-obeys c t h (c .running)
 accessed-obeys c t w sd h (request.Refused k) e = h

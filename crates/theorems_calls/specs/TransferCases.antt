@@ -23,7 +23,7 @@ use Rattle.table_write.specs.Append.{placeOf, slotOf, headerAfter, appendOf, lo
 use Rattle.clock.specs.Events.{onOff}
 use Rattle.clock.specs.State.{withRunning}
 use Rattle.clock.specs.Answers.{numberOf}
-use Rattle.clock.specs.Obeys.{opcodeB, filterB, counterB, reportB, clockB, timeB}
+use Rattle.clock.specs.Obeys.{opcodeB, counterB, reportB, clockB, timeB}
 use Rattle.clock.specs.Obeys as rules
 use Rattle.clock.specs.declared.answers.Answer.{Answer}
 use Rattle.clock.specs.declared.answers.Answer.the-variants.{Done, ClockBroken, OutputShort, WriteLength, SwitchedOff, ReportRunning, NothingRunning}
@@ -159,11 +159,11 @@ unfolding soundB headB sizeB fieldsB startB emptyB rowB slotB slot ring slots lo
 soundOpen t = soundB t
 
 unfoldable pub notified : Asking → Notice
-unfolding notifyOf notifyRows tableRows firstFailed doneB numberOf roomB wholeB runningWholeB leftB clockB timeB rules.runningB reportB opcodeB filterB counterB matchesB soundOpen held runningNotice noticed saidOf leftAfter leftFrom leftAt nextMatch firstFrom firstNumber firstBytes bytesOf updateBytes faultBytes segmentOf headerOf closingOf matching matchingFrom countBytes codeBytes codeOf over
+unfolding notifyOf notifyRows tableRows firstFailed doneB numberOf roomB wholeB runningWholeB leftB clockB timeB rules.runningB reportB opcodeB counterB matchesB soundOpen held runningNotice noticed saidOf leftAfter leftFrom leftAt nextMatch firstFrom firstNumber firstBytes bytesOf updateBytes faultBytes segmentOf headerOf closingOf matching matchingFrom countBytes codeBytes codeOf over
 notified k = notifyOf (k .clock) (k .table) (k .payload) (lent (k .room))
 
 unfoldable pub accessDone : Writing → Outcome
-unfolding accessOf accessRows tableRows writeRows firstFailed doneB numberOf wholeB runningWholeB leftB clockB timeB rules.runningB reportB opcodeB filterB counterB matchesB soundOpen held answered accessedOf accessed begunOf abortedOf leftFrom leftAt nextMatch firstFrom firstNumber matching matchingFrom countBytes codeBytes codeOf requestOf askedOf abortOf filterOperand filterAt typedB operandBytes over
+unfolding accessOf accessRows tableRows writeRows firstFailed doneB numberOf wholeB runningWholeB leftB clockB timeB rules.runningB reportB opcodeB counterB matchesB soundOpen held answered accessedOf accessed begunOf abortedOf leftFrom leftAt nextMatch firstFrom firstNumber matching matchingFrom countBytes codeBytes codeOf requestOf askedOf abortOf filterOperand filterAt typedB operandBytes over
 accessDone k = accessOf (k .clock) (k .table) (k .write) (lent 20)
 
 -- the tables laid open

@@ -9,8 +9,6 @@ use Rattle.clock.proofs.state.with_running.Kinds as with-running-kinds
 use Rattle.clock.proofs.state.with_running.Reads as with-running-reads
 use Rattle.clock.proofs.obeys.clock_ok.Kinds as clock-ok-kinds
 use Rattle.clock.proofs.obeys.clock_ok.Reads as clock-ok-reads
-use Rattle.clock.proofs.obeys.filter_ok.Kinds as filter-ok-kinds
-use Rattle.clock.proofs.obeys.filter_ok.Reads as filter-ok-reads
 use Rattle.clock.proofs.answers.number_of.Kinds as number-of-kinds
 use Rattle.clock.proofs.answers.number_of.Reads as number-of-reads
 use Rattle.clock.proofs.answers.att_error_of.Kinds as att-error-of-kinds
@@ -63,7 +61,6 @@ pub record OneOutcome : Type 0 where
   pub all-off : Only all-off-kinds.ps all-off-kinds.r all-off-reads.Pre all-off-reads.Post
   pub with-running : Only with-running-kinds.ps with-running-kinds.r with-running-reads.Pre with-running-reads.Post
   pub clock-ok : Only clock-ok-kinds.ps clock-ok-kinds.r clock-ok-reads.Pre clock-ok-reads.Post
-  pub filter-ok : Only filter-ok-kinds.ps filter-ok-kinds.r filter-ok-reads.Pre filter-ok-reads.Post
   pub number-of : Only number-of-kinds.ps number-of-kinds.r number-of-reads.Pre number-of-reads.Post
   pub att-error-of : Only att-error-of-kinds.ps att-error-of-kinds.r att-error-of-reads.Pre att-error-of-reads.Post
   pub table-rows : Only table-rows-kinds.ps table-rows-kinds.r table-rows-reads.Pre table-rows-reads.Post

@@ -11,7 +11,7 @@ use Rattle.filter.specs.declared.filter.Filter.{Filter}
 use Rattle.record.specs.declared.kinds.Record.{Record}
 use Rattle.table.specs.Table.{count, soundB}
 use Rattle.table_look.specs.Matching.{matching}
-use Rattle.clock.specs.Obeys.{opcodeB, filterB, clockB}
+use Rattle.clock.specs.Obeys.{opcodeB, clockB}
 use Rattle.clock.specs.declared.state.Clock.{Clock}
 use Rattle.clock.specs.declared.state.Left.{Left}
 use Rattle.clock.specs.declared.state.Left.the-variants.{From}
@@ -33,14 +33,14 @@ use Rattle.theorems_reports.proofs.AccessLaws.{left-done, response-done
 
 -- a report that is accepted runs
 module _ (t : List ℕ) (sd : soundB t ≡ true) (hb : Bytes t) (opcode : ℕ) (f : Filter) (c : Clock) (ok : clockB c ≡ true)
-    (h : (opcodeB opcode ≡ true) × (filterB f ≡ true)) where
+    (h : opcodeB opcode ≡ true) where
   begins : {rest : Left} {sent : ℕ} {l : List Record} → Stands t sd f rest sent l → responseIn (begunOf c opcode f rest) ≡ []
       → Runs t sd hb opcode f (begunOf c opcode f rest .clock) 0 sent l
   unfolding begunOf accessed codeBytes
   begins none e = let n : _≡_ {A = ℕ} 4 0 = ap length e in absurd (omega arith)
   begins (some {number} {sent} {x} {rest} s) e =
       record {
-        clock = with-running-obeys c _ ok (running-makes (report opcode f 0 (From number sent)) (record { opcode = h .0; filter = h .1; counter = omega arith }));
+        clock = with-running-obeys c _ ok (running-makes (report opcode f 0 (From number sent)) (record { opcode = h; counter = omega arith }));
         rest = From number sent;
         running = refl;
         stands = some s;

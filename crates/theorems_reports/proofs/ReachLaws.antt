@@ -15,7 +15,7 @@ use Rattle.filter.specs.declared.filter.Filter.{Filter}
 use Rattle.record.specs.declared.kinds.Record.{Record}
 use Rattle.table.specs.Table.{count, held, ageOf}
 use Rattle.clock.specs.State.{withRunning}
-use Rattle.clock.specs.Obeys.{opcodeB, filterB, runningB}
+use Rattle.clock.specs.Obeys.{opcodeB, runningB}
 use Rattle.clock.specs.declared.state.Left.{Left}
 use Rattle.clock.specs.declared.state.Left.the-variants.{Nothing, From}
 use Rattle.clock.specs.declared.state.Report.{Report}
@@ -59,13 +59,13 @@ found : (v : World) → Good v → (f : Filter) (k : ℕ) → leftB (v .table) f
 found v g f k =
     left-ok (v .table) (g .sound) (g .bytes) 1 f (left-stands (v .table) (g .sound) f (g .bytes) (count (v .table)) k (omega arith))
 
-begun : (v : World) (opcode : ℕ) (f : Filter) (l : Left) → opcodeB opcode ≡ true → filterB f ≡ true → leftB (v .table) f l ≡ true
+begun : (v : World) (opcode : ℕ) (f : Filter) (l : Left) → opcodeB opcode ≡ true → leftB (v .table) f l ≡ true
     → Turned v (world (begunOf (v .clock) opcode f l .clock) (v .table))
 unfolding begunOf accessed rows.runningWholeB
-begun v opcode f Nothing o h l = same
-begun v opcode f (From number sent) o h l =
+begun v opcode f Nothing o l = same
+begun v opcode f (From number sent) o l =
     turns (Reporting (report opcode f 0 (From number sent)))
-    (running-makes (report opcode f 0 (From number sent)) (record { opcode = o; filter = h; counter = omega arith })) l
+    (running-makes (report opcode f 0 (From number sent)) (record { opcode = o; counter = omega arith })) l
 
 aborted : (v : World) (r : Running) → Turned v (world (abortedOf (v .clock) r .clock) (v .table))
 unfolding abortedOf accessed
@@ -75,7 +75,7 @@ aborted v (Reporting r) = ended v
 accessed-turned : (v : World) (opcode : ℕ) {q : Request} → Good v → Right opcode q
     → Turned v (world (accessedOf (v .clock) (v .table) opcode q .clock) (v .table))
 unfolding accessedOf accessed
-accessed-turned v opcode g (reports {f} o h) = begun v opcode f (leftFrom f (v .table) 0) o h (found v g f 0)
+accessed-turned v opcode g (reports {f} o) = begun v opcode f (leftFrom f (v .table) 0) o (found v g f 0)
 accessed-turned v opcode g (numbers a) = same
 accessed-turned v opcode g (ends a) = aborted v (v .clock .running)
 accessed-turned v opcode g refuses = same
@@ -121,7 +121,7 @@ said-turned v q r (From number sent) g ok h =
     let b = firstBytes (drop (ageOf (v .table) number) (held (v .table))) in
     let on = report (r .opcode) (r .filter) (counterAfter (r .counter)) (leftAfter (r .filter) (v .table) q number sent b) in
     turns (Reporting on)
-    (running-makes on (record { opcode = k .opcode; filter = k .filter; counter = omega arith }))
+    (running-makes on (record { opcode = k .opcode; counter = omega arith }))
     (rest-left v g (r .filter) q number sent h)
 
 notice-turned : (v : World) (p : ℕ) (o : List ℕ) (r : Running) → Good v → runningB r ≡ true → rows.runningWholeB (v .table) r ≡ true

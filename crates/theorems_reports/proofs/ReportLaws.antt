@@ -56,7 +56,7 @@ pub heard-report : HeardReport
 heard-report v w o f ks hb a u =
     let b = accepted v w o f hb a in
     let s = holds (v .table) (b .sound) hb (opcodeIn w) f ks (b .clock) 0 0 (matching f (v .table)) emptyJoining (b .runs) (synced-empty _ 0) (rw (b .is) at u) in
-    rw (b .is) (record { fine = s .fine; finished = finished (v .table) w (b .sound) hb f _ (request-report w f (a .asked) .0) s })
+    rw (b .is) (record { fine = s .fine; finished = finished (v .table) w (b .sound) hb f _ (request-report w f (a .asked)) s })
 
 pub quiet-calls : QuietCalls
 quiet-calls v w o f ks hb a h =

@@ -79,7 +79,6 @@ module _ (t : List ℕ) (sd : soundB t ≡ true) (hb : Bytes t) (opcode : ℕ) (
       record {
         clock = with-running-obeys c _ (r .clock) (running-makes (report opcode f (counterAfter k) rest) (record {
           opcode = e .opcode;
-          filter = e .filter;
           counter = omega arith;
         }));
         rest = rest;

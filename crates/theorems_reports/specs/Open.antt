@@ -14,7 +14,7 @@ use Rattle.table_write.specs.Append.{placeOf, slotOf, headerAfter, appendOf}
 use Rattle.table_look.specs.Matching.{firstFrom, nextMatch, matchingFrom, matching}
 use Rattle.clock.specs.Answers.{numberOf}
 use Rattle.clock.specs.State.{newReader}
-use Rattle.clock.specs.Obeys.{opcodeB, filterB, counterB, reportB, clockB, timeB}
+use Rattle.clock.specs.Obeys.{opcodeB, counterB, reportB, clockB, timeB}
 use Rattle.clock.specs.Obeys as clocks
 use Rattle.clock.specs.Events.{unlessBroken, withBase, disconnected, secondsOf, switchesOf, disconnectOf}
 use Rattle.update_judge.specs.Proposal.{proposalAt}
@@ -51,7 +51,7 @@ unfolding zerosB over
     sizeB startB emptyB fieldsB headB slot bytesIn recordIn slots ring held slotB rowB soundB steps
     fresh startOf placeOf slotOf headerAfter appendOf
     firstFrom nextMatch matchingFrom matching
-    numberOf newReader opcodeB filterB counterB reportB clocks.runningB timeB clockB
+    numberOf newReader opcodeB counterB reportB clocks.runningB timeB clockB
     unlessBroken withBase disconnected secondsOf switchesOf disconnectOf
     proposalAt clockGrade localB gradeOf epochB rangeB lowerB secondsApart unrealisticB flagIf groundsOf
     judged decide.updateOperand decideOf statusAfter alignedAfter accuracyOf acceptedOf loggedB updateRecord responseBytes

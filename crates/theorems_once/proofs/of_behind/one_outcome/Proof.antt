@@ -11,7 +11,6 @@ returns c =
       all-off = λ κs a x y u v h p q. (p ∙ sym q, refl);
       with-running = λ κs a x y u v h p q. (p ∙ sym q, refl);
       clock-ok = λ κs a x y u v h p q. (p ∙ sym q, refl);
-      filter-ok = λ κs a x y u v h p q. (p ∙ sym q, refl);
       number-of = λ κs a x y u v h p q. (p ∙ sym q, refl);
       att-error-of = λ κs a x y u v h p q. (p ∙ sym q, refl);
       table-rows = λ κs a x y u v h p q. (p ∙ sym q, refl);
