@@ -102,7 +102,7 @@ module _ (t : List ℕ) (sd : soundB t ≡ true) (hb : Bytes t) (opcode : ℕ) (
         → worldAfter (accessOf c t w o) ≡ world (accessedOf c t (opcodeIn w) q .clock) t → doneB (accessOf c t w o .reply .answer) ≡ true
         → Step c k sent l (recordAccess w o)
     unfolding heardBy stepBy calmB answerOf opcodeB accessedOf abortedOf accessed
-    step-abort w o (reports a b) h q e d = let z = eqb-true (opcodeIn w) 3 h in absurd (clash (opcodeB (opcodeIn w)) a (rw z refl))
+    step-abort w o (reports a) h q e d = let z = eqb-true (opcodeIn w) 3 h in absurd (clash (opcodeB (opcodeIn w)) a (rw z refl))
     step-abort w o (numbers a) h q e d = let z = eqb-true (opcodeIn w) 3 h in absurd (clash (eqb (opcodeIn w) 4) a (rw z refl))
     step-abort w o (ends a) h q e d =
         ended {a = recordAccess w o} refl (ap (λ (v : World). idleB (v .clock .running)) e ∙ rw (r .running) refl) (rw (q, d) refl)
