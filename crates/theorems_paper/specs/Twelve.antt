@@ -221,11 +221,11 @@ abbrev pub Case10 : Type 0
 Case10 = answer switchedOn (0x04 ∷ 0x01 ∷ []) ∷ answer switchedOn (0x01 ∷ 0x01 ∷ []) ∷ []
     ≡ (0x05 ∷ 0x00 ∷ 0x00 ∷ 0x00 ∷ []) ∷ (0x06 ∷ 0x00 ∷ 0x01 ∷ 0x06 ∷ []) ∷ []
 
--- 11. "01 00 gives 06 00 01 03; 02 01 gives 06 00 02 02; 04 04 01 05 00 03 00 gives 06 00 04 05."
+-- 11. "01 00 gives 06 00 01 03; 02 01 gives 06 00 02 02", and "the last line .., on an empty log, becomes 05 00 00 00" (change request E1).
 abbrev pub Case11 : Type 0
 Case11 = answer first (0x01 ∷ 0x00 ∷ []) ∷ answer first (0x02 ∷ 0x01 ∷ [])
-    ∷ answer first (0x04 ∷ 0x04 ∷ 0x01 ∷ 0x05 ∷ 0x00 ∷ 0x03 ∷ 0x00 ∷ []) ∷ []
-    ≡ (0x06 ∷ 0x00 ∷ 0x01 ∷ 0x03 ∷ []) ∷ (0x06 ∷ 0x00 ∷ 0x02 ∷ 0x02 ∷ []) ∷ (0x06 ∷ 0x00 ∷ 0x04 ∷ 0x05 ∷ []) ∷ []
+    ∷ answer switchedOn (0x04 ∷ 0x04 ∷ 0x01 ∷ 0x05 ∷ 0x00 ∷ 0x03 ∷ 0x00 ∷ []) ∷ []
+    ≡ (0x06 ∷ 0x00 ∷ 0x01 ∷ 0x03 ∷ []) ∷ (0x06 ∷ 0x00 ∷ 0x02 ∷ 0x02 ∷ []) ∷ (0x05 ∷ 0x00 ∷ 0x00 ∷ 0x00 ∷ []) ∷ []
 
 -- 12. "Force with zone 56, -48, -128 taken; 57, -49 out of range." A zone of -128 makes the grade 2.
 abbrev pub Case12 : Type 0
