@@ -29,6 +29,10 @@ both-yes h = rw h
 pub both-no : (a b : Bool) → a ≡ false → both a b ≡ false
 both-no a b h = rw h
 
+pub both-not : (a : Bool) {b : Bool} → b ≡ false → both a b ≡ false
+both-not true h = h
+both-not false h = refl
+
 pub both-reads : (a b : Bool) → both a b ≡ true → (a ≡ true) × (b ≡ true)
 both-reads true b h = (refl, h)
 both-reads false b h = absurd (clash false h refl)

@@ -12,8 +12,8 @@ use Rattle.rules.proofs.fields.status_ok.Kinds as status-ok-kinds
 use Rattle.rules.proofs.fields.status_ok.Reads as status-ok-reads
 use Rattle.filter.proofs.filter.place_by_age.Kinds as place-by-age-kinds
 use Rattle.filter.proofs.filter.place_by_age.Reads as place-by-age-reads
-use Rattle.filter.proofs.filter.start_of.Kinds as start-of-kinds
-use Rattle.filter.proofs.filter.start_of.Reads as start-of-reads
+use Rattle.filter.proofs.filter.start_age.Kinds as start-age-kinds
+use Rattle.filter.proofs.filter.start_age.Reads as start-age-reads
 use Rattle.filter.proofs.filter.matches.Kinds as matches-kinds
 use Rattle.filter.proofs.filter.matches.Reads as matches-reads
 use Rattle.record.proofs.fields.sequence_of.Kinds as sequence-of-kinds
@@ -42,7 +42,7 @@ pub record OneOutcome : Type 0 where
   pub source-ok : Only source-ok-kinds.ps source-ok-kinds.r source-ok-reads.Pre source-ok-reads.Post
   pub status-ok : Only status-ok-kinds.ps status-ok-kinds.r status-ok-reads.Pre status-ok-reads.Post
   pub place-by-age : Only place-by-age-kinds.ps place-by-age-kinds.r place-by-age-reads.Pre place-by-age-reads.Post
-  pub start-of : Only start-of-kinds.ps start-of-kinds.r start-of-reads.Pre start-of-reads.Post
+  pub start-age : Only start-age-kinds.ps start-age-kinds.r start-age-reads.Pre start-age-reads.Post
   pub matches : Only matches-kinds.ps matches-kinds.r matches-reads.Pre matches-reads.Post
   pub sequence-of : Only sequence-of-kinds.ps sequence-of-kinds.r sequence-of-reads.Pre sequence-of-reads.Post
   pub type-of : Only type-of-kinds.ps type-of-kinds.r type-of-reads.Pre type-of-reads.Post
