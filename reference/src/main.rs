@@ -20,7 +20,7 @@ use std::process::ExitCode;
 const USAGE: &str = "usage: reference [--archive COMMAND] [--calls N] [--seed S]
        reference --season COMMAND [--runs N] [--seed S]";
 /// How many mutants the archive is compared with, and how many calls each may take.
-const MUTANTS_TRIED: usize = 12;
+const MUTANTS_TRIED: usize = 15;
 const MUTANT_CALLS: usize = 60_000;
 
 /// What the reference is compared with; the words of a command.

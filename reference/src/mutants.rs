@@ -1,13 +1,14 @@
-//! Readers that are wrong in one number each, and season programs that are wrong in one step: a
-//! comparison is worth what it notices of these.
+//! Readers that are wrong in one number or one step each, and season programs that are wrong in one
+//! step: a comparison is worth what it notices of these.
 
+use crate::access::{matches, Filter};
 use crate::numbers::{Numbers, PAPER};
 use crate::reader::Reference;
 use crate::record::{self, Record};
 use crate::season::{self, Entry, Figures, Season};
-use crate::table::{HEADER_BYTES, SLOT_BYTES};
+use crate::table::{Log, HEADER_BYTES, SLOT_BYTES};
 
-/// A number of the paper, spoiled; or one thing of something else.
+/// A number or step of the paper, spoiled; or one thing of something else.
 pub struct Mutant<T = Numbers> {
     pub name: &'static str,
     spoil: fn(&mut T),
@@ -17,6 +18,9 @@ pub const MUTANTS: &[Mutant] = &[
     Mutant { name: "86,401 seconds are realistic", spoil: |n| n.realistic_seconds = 86_401 },
     Mutant { name: "source 7 reaches grade 3", spoil: |n| n.sources_without_zone = &[0, 3, 4] },
     Mutant { name: "GPS stops at grade 2", spoil: |n| n.sources_without_zone = &[0, 2, 3, 4, 7] },
+    Mutant { name: "filters compare plain numbers", spoil: |n| n.matches = plain_numbers },
+    Mutant { name: "a range is cut to what is held", spoil: |n| n.matches = cut_range },
+    Mutant { name: "the next number counts as held", spoil: |n| n.matches = next_as_newest },
     Mutant { name: "counter 62, then 0", spoil: |n| n.counters = 63 },
     Mutant { name: "fault count stays at 65,534", spoil: |n| n.last_fault_count = 65_534 },
     Mutant { name: "records of at most 44 bytes", spoil: |n| n.record_bytes = 44 },
@@ -40,14 +44,71 @@ pub const MUTANTS: &[Mutant] = &[
     Mutant { name: "output of 19 bytes", spoil: |n| n.smallest_output = 19 },
     Mutant { name: "writes of up to 21 bytes", spoil: |n| n.longest_write = 21 },
     Mutant { name: "first bit never set", spoil: |n| n.first_bit = 0 },
+    Mutant { name: "at least v takes the record before it", spoil: |n| n.matches = one_older },
+    Mutant { name: "at most v takes the record after it", spoil: |n| n.matches = one_newer },
+    Mutant { name: "at least one before the oldest is all", spoil: |n| n.matches = before_as_all },
+    Mutant { name: "a turned range is turned back", spoil: |n| n.matches = turned_back },
 ];
 
-/// The reference with that number spoiled.
+/// The reference with that number or step spoiled.
 pub fn spoiled(mutant: &Mutant) -> Reference {
     let mut numbers = PAPER;
     (mutant.spoil)(&mut numbers);
-    assert_ne!(numbers, PAPER, "{}", mutant.name);
     Reference { numbers }
+}
+
+/// The rule that change request E1 did away with.
+fn plain_numbers(numbers: &Numbers, log: &Log, filter: Filter, age: usize) -> bool {
+    let sequence = log.sequence(age);
+    match filter {
+        Filter::AtMost(maximum) => sequence <= maximum,
+        Filter::AtLeast(minimum) => minimum <= sequence,
+        Filter::Range(minimum, maximum) => (minimum..=maximum).contains(&sequence),
+        _ => matches(numbers, log, filter, age),
+    }
+}
+
+fn cut_range(numbers: &Numbers, log: &Log, filter: Filter, age: usize) -> bool {
+    let Filter::Range(minimum, maximum) = filter else {
+        return matches(numbers, log, filter, age);
+    };
+    log.age_of(numbers, minimum).is_none_or(|oldest| oldest <= age)
+        && log.age_of(numbers, maximum).is_none_or(|newest| age <= newest)
+}
+
+fn next_as_newest(numbers: &Numbers, log: &Log, filter: Filter, age: usize) -> bool {
+    let newest = log.sequence(log.shape.held - 1);
+    let held = |maximum| if maximum == log.shape.next { newest } else { maximum };
+    let filter = match filter {
+        Filter::AtMost(maximum) => Filter::AtMost(held(maximum)),
+        Filter::Range(minimum, maximum) => Filter::Range(minimum, held(maximum)),
+        _ => filter,
+    };
+    matches(numbers, log, filter, age)
+}
+
+fn one_older(numbers: &Numbers, log: &Log, filter: Filter, age: usize) -> bool {
+    let newer = age + usize::from(matches!(filter, Filter::AtLeast(_)));
+    matches(numbers, log, filter, newer)
+}
+
+fn one_newer(numbers: &Numbers, log: &Log, filter: Filter, age: usize) -> bool {
+    let older = age.saturating_sub(usize::from(matches!(filter, Filter::AtMost(_))));
+    matches(numbers, log, filter, older)
+}
+
+fn before_as_all(numbers: &Numbers, log: &Log, filter: Filter, age: usize) -> bool {
+    let before = |minimum| numbers.sequence_after(minimum) == log.sequence(0);
+    matches!(filter, Filter::AtLeast(minimum) if before(minimum))
+        || matches(numbers, log, filter, age)
+}
+
+fn turned_back(numbers: &Numbers, log: &Log, filter: Filter, age: usize) -> bool {
+    let turned = match filter {
+        Filter::Range(minimum, maximum) => Filter::Range(maximum, minimum),
+        _ => filter,
+    };
+    matches(numbers, log, filter, age) || matches(numbers, log, turned, age)
 }
 
 pub const WRONG_SEASONS: &[Mutant<Season>] = &[

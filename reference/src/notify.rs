@@ -24,7 +24,7 @@ pub fn notify(
     let payload = payload(numbers, p, out)?;
     let report = clock.report.ok_or(Refusal::NoReport)?;
     let (after, answer) = match report.left {
-        None => (None, CLOSING + access::respond(out, &closing(&log, &report))),
+        None => (None, CLOSING + access::respond(out, &closing(numbers, &log, &report))),
         Some(left) => {
             let (after, length) = send(numbers, &log, &report, left, &mut out[..payload]);
             (Some(after), length as i32)
@@ -43,9 +43,9 @@ fn payload(numbers: &Numbers, p: u32, out: &[u8]) -> Result<usize, Refusal> {
     Ok(payload)
 }
 
-fn closing(log: &Log, report: &Report) -> [u8; 4] {
+fn closing(numbers: &Numbers, log: &Log, report: &Report) -> [u8; 4] {
     if report.opcode == access::COMBINED_REPORT {
-        access::combined_response(access::count(log, report.filter))
+        access::combined_response(access::count(numbers, log, report.filter))
     } else {
         access::response(report.opcode, access::SUCCESS)
     }
@@ -61,7 +61,7 @@ fn send(
     left: Left,
     payload: &mut [u8],
 ) -> (Report, usize) {
-    let age = log.age_of(left.sequence).expect("row 2: the next record is held");
+    let age = log.age_of(numbers, left.sequence).expect("row 2: the next record is held");
     let unsent = &log.record(age)[usize::from(left.sent)..];
     let body = &unsent[..unsent.len().min(payload.len() - 1)];
     let is_last = body.len() == unsent.len();
@@ -72,7 +72,7 @@ fn send(
     let after = Report {
         counter: numbers.counter_after(report.counter),
         left: if is_last {
-            access::left_from(log, report.filter, age + 1)
+            access::left_from(numbers, log, report.filter, age + 1)
         } else {
             Some(Left { sent: left.sent + body.len() as u8, ..left })
         },

@@ -1,9 +1,13 @@
 //! The paper's numbers in one table.
 //!
 //! They are fields and not constants for one reason: a test spoils one number at a time and asks
-//! whether the comparison of two readers notices. Everybody else uses `PAPER`.
+//! whether the comparison of two readers notices. Everybody else uses `PAPER`. One step stands among
+//! them to be spoiled alike: which records match.
 
-#[derive(Clone, Debug, PartialEq, Eq)]
+use crate::access::{self, Filter};
+use crate::table::Log;
+
+#[derive(Clone, Debug)]
 pub struct Numbers {
     /// 2020-01-01 in seconds since 2000-01-01.
     pub first_base_time: u32,
@@ -33,6 +37,8 @@ pub struct Numbers {
     pub largest_payload: u32,
     /// The one RACP filter type we know: the sequence number.
     pub filter_type: u8,
+    /// Does a filter take the held record of this age?
+    pub matches: fn(&Numbers, &Log, Filter, usize) -> bool,
     /// Segment counters count modulo this.
     pub counters: u8,
     /// Header bit of a record's first segment.
@@ -62,6 +68,7 @@ pub const PAPER: Numbers = Numbers {
     smallest_payload: 20,
     largest_payload: 244,
     filter_type: 1,
+    matches: access::matches,
     counters: 64,
     first_bit: 0x01,
     last_bit: 0x02,

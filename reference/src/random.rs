@@ -254,10 +254,11 @@ pub fn some_slots(random: &mut Random) -> usize {
 /// A sound table of so many slots: empty or full, wrapped or not, with numbers that roll over.
 pub fn some_plan(random: &mut Random, slots: usize) -> Plan {
     let held = random.pick(&[0, 1, slots / 2, slots.saturating_sub(1), slots, slots]);
-    let next = match random.below(4) {
+    let next = match random.below(5) {
         0 => held as u16,
-        1 => random.below(8) as u16,
-        2 => 65_535 - random.below(4) as u16,
+        // The roll lies among the held numbers, or just beside them.
+        1 | 2 => random.below(held + 2) as u16,
+        3 => 65_535 - random.below(4) as u16,
         _ => random.number() as u16,
     };
     let oldest = random.below(slots);
@@ -476,15 +477,17 @@ impl Maker {
 
     fn damaged_state(&mut self, world: &World) {
         let (at, bytes) = self.state_damage(world);
+        let mut damaged = world.clone();
+        damaged.poke(Buffer::State, at, &bytes);
         self.add(Step::Bytes(Buffer::State, at, bytes));
-        self.some_calls(world);
+        self.some_calls(&damaged);
         self.add(Step::Length(Buffer::State, world.state.len()));
         self.add(Step::Bytes(Buffer::State, 0, world.state.clone()));
     }
 
     /// A field of the state with a value at an edge of its range, or any byte of it.
     fn state_damage(&mut self, world: &World) -> (usize, Vec<u8>) {
-        match self.random.below(20) {
+        match self.random.below(22) {
             0 => (0, self.random.pick(&BASE_EDGES).to_le_bytes().to_vec()),
             1 => (4, vec![self.random.pick(&ZONE_EDGES)]),
             2 => (5, vec![self.random.pick(&DST_EDGES)]),
@@ -502,7 +505,7 @@ impl Maker {
             14 => (25, self.likely_sequence(world).to_le_bytes().to_vec()),
             15 => (27, vec![self.random.pick(&SENT_EDGES)]),
             16 => (28 + self.random.below(4), vec![1]),
-            17 => (17, self.some_report(world)),
+            17..=19 => (17, self.some_report(world)),
             _ => (self.random.below(32), vec![self.random.byte()]),
         }
     }
@@ -511,15 +514,13 @@ impl Maker {
     fn some_report(&mut self, world: &World) -> Vec<u8> {
         let mut bytes = vec![0; 11];
         bytes[0] = self.random.pick(&[1, 7, 7, 2]);
-        bytes[1] = 1 + self.random.below(6) as u8;
-        let (one, two) = (self.likely_sequence(world), self.likely_sequence(world));
-        let (least, most) =
-            if self.random.one_in(6) { (one, two) } else { (one.min(two), one.max(two)) };
+        bytes[1] = self.random.pick(&[1, 2, 3, 4, 4, 4, 5, 6]);
+        let (minimum, maximum) = self.likely_range(world);
         if matches!(bytes[1], 3 | 4) || self.random.one_in(20) {
-            put_u16(&mut bytes, 2, least);
+            put_u16(&mut bytes, 2, minimum);
         }
         if matches!(bytes[1], 2 | 4) || self.random.one_in(20) {
-            put_u16(&mut bytes, 4, most);
+            put_u16(&mut bytes, 4, maximum);
         }
         bytes[6] = self.random.pick(&[0, 1, 30, 62, 63, 64]);
         if !self.random.one_in(4) {
@@ -688,6 +689,21 @@ impl Maker {
         u16_at(&world.table, 8).wrapping_sub(back)
     }
 
+    /// Two such numbers, three times in four the older one first, by age from the one before the
+    /// oldest held.
+    fn likely_range(&mut self, world: &World) -> (u16, u16) {
+        let (one, two) = (self.likely_sequence(world), self.likely_sequence(world));
+        let before = match world.table.len() < HEADER_BYTES {
+            true => 0,
+            false => u16_at(&world.table, 8).wrapping_sub(u16_at(&world.table, 2).wrapping_add(1)),
+        };
+        let turned = one.wrapping_sub(before) > two.wrapping_sub(before);
+        if turned && self.random.one_in(2) {
+            return (two, one);
+        }
+        (one, two)
+    }
+
     /// An update with a field or more at an edge, or any bytes.
     fn dtcp_write(&mut self, world: &World) -> Vec<u8> {
         if self.random.one_in(4) {
@@ -749,17 +765,18 @@ impl Maker {
         }
         let opcode = self.random.pick(&[1, 1, 4, 7, 7]);
         let unsupported = 7 + self.random.below(249) as u8;
-        let operator = self.random.pick(&[1, 1, 1, 2, 3, 4, 5, 6, 6, 0, unsupported]);
+        let operator = self.random.pick(&[1, 1, 2, 3, 3, 4, 4, 5, 6, 0, unsupported]);
         let mut write = vec![opcode, operator];
         if matches!(operator, 2..=4) {
             write.push(self.random.pick(&[1, 1, 1, 1, 1, 1, 0, 2]));
-            let (one, two) = (self.likely_sequence(world), self.likely_sequence(world));
-            let ordered = !self.random.one_in(6);
-            let least = if ordered { one.min(two) } else { one };
-            write.extend(least.to_le_bytes());
-            if operator == 4 {
-                write.extend((if ordered { one.max(two) } else { two }).to_le_bytes());
-            }
+            let (minimum, maximum) = self.likely_range(world);
+            let named = [minimum.to_le_bytes(), maximum.to_le_bytes()].concat();
+            let values = match operator {
+                2 => &named[2..],
+                3 => &named[..2],
+                _ => &named[..],
+            };
+            write.extend(values);
         }
         if self.random.one_in(12) {
             write.resize(1 + self.random.below(20), 0);

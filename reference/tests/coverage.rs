@@ -50,11 +50,31 @@ fn name(call: &Call) -> &'static str {
     }
 }
 
+/// How many numbers a value comes after the oldest held; from H on it isn't held.
+fn place(table: &[u8], value: u16) -> usize {
+    let oldest = u16_at(table, 8).wrapping_sub(u16_at(table, 2));
+    usize::from(value.wrapping_sub(oldest))
+}
+
+/// What a range is, by the places of its ends, that doesn't run over the roll.
+fn range_event(minimum: usize, maximum: usize, held: usize) -> &'static str {
+    match (minimum < held, maximum < held) {
+        (true, true) if minimum > maximum => "turned range",
+        (true, true) => "range of held numbers",
+        (true, false) => "range whose maximum isn't held",
+        (false, true) => "range whose minimum isn't held",
+        (false, false) => "range with no end held",
+    }
+}
+
 impl Seen {
     fn call(&mut self, call: &Call, answer: i32, before: &World, after: &World) {
         *self.numbers.entry(name(call)).or_default().entry(-answer.min(0)).or_default() += 1;
         let running = before.state.get(17).is_some_and(|opcode| *opcode != 0);
         let out = &after.out;
+        if running && before.state[18] == 4 && before.table.len() >= 16 {
+            self.range_running(call, answer, before);
+        }
         match call {
             Call::DtcpWrite(write) => self.write("dtcp_write", write),
             Call::RacpWrite(write) => self.write("racp_write", write),
@@ -72,8 +92,12 @@ impl Seen {
                     self.logged(after);
                 }
             }
-            Call::RacpWrite(_) if answer == 0 => drop(self.events.insert("report begun")),
+            Call::RacpWrite(write) if answer == 0 => {
+                self.events.insert("report begun");
+                self.by_number(write, true, &before.table);
+            }
             Call::RacpWrite(write) => {
+                self.by_number(write, out[0] == 5 && out[2..4] != [0, 0], &before.table);
                 self.racp_codes.insert(if out[0] == 6 { out[3] } else { 0 });
                 if running && write[0] == 3 && out[3] == 1 {
                     self.events.insert("report aborted");
@@ -127,6 +151,44 @@ impl Seen {
         if point == "racp_write" && matches!(write, [1 | 4 | 7, _, ..]) {
             self.operators.insert(write[1]);
         }
+    }
+
+    /// A request by number, and whether it found records.
+    fn by_number(&mut self, write: &[u8], found: bool, table: &[u8]) {
+        let held = usize::from(u16_at(table, 2));
+        let by_number =
+            matches!(write, [1 | 4 | 7, 2 | 3, 1, _, _] | [1 | 4 | 7, 4, 1, _, _, _, _]);
+        if held == 0 || !by_number {
+            return;
+        }
+        let (value, newest) = (u16_at(write, 3), u16_at(table, 8).wrapping_sub(1));
+        let event = match write[1] {
+            2 if place(table, value) == held => "at most the next number",
+            2 if found && value > newest => "at most, before the roll",
+            3 if place(table, value) == 65_535 => "at least one before the oldest",
+            3 if found && value > newest => "at least, over the roll",
+            4 if found && value > u16_at(write, 5) => "range over the roll",
+            4 => range_event(place(table, value), place(table, u16_at(write, 5)), held),
+            _ => return,
+        };
+        self.events.insert(event);
+    }
+
+    /// A call while the report of a range runs.
+    fn range_running(&mut self, call: &Call, answer: i32, before: &World) {
+        let (minimum, maximum) = (u16_at(&before.state, 19), u16_at(&before.state, 21));
+        let turned = place(&before.table, minimum) > place(&before.table, maximum);
+        let left = before.state[24] == 1;
+        let event = match call {
+            Call::Seconds(_) | Call::Switches(..) | Call::Disconnect if answer == 0 && turned => {
+                "turned range in a state"
+            }
+            Call::Notify(_) if answer == -2 && turned && left => "next record of a turned range",
+            Call::Notify(_) if answer > 256 && turned => "turned range closed",
+            Call::Notify(_) if answer > 256 && minimum > maximum => "range over the roll closed",
+            _ => return,
+        };
+        self.events.insert(event);
     }
 
     fn logged(&mut self, after: &World) {
@@ -197,6 +259,20 @@ fn sequences_reach_everything() {
             "any number kept first",
             "oldest overwritten by a record kept",
             "number 65,535 kept",
+            "at most the next number",
+            "at most, before the roll",
+            "at least one before the oldest",
+            "at least, over the roll",
+            "range over the roll",
+            "range of held numbers",
+            "turned range",
+            "range whose maximum isn't held",
+            "range whose minimum isn't held",
+            "range with no end held",
+            "turned range in a state",
+            "next record of a turned range",
+            "turned range closed",
+            "range over the roll closed",
         ])
     );
 }

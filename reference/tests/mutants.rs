@@ -1,4 +1,4 @@
-//! The comparison notices a reader that is wrong in one number only.
+//! The comparison notices a reader that is wrong in one number or step only.
 
 use reference::mutants::{spoiled, Mutant, MUTANTS};
 use reference::random::{compare, differs};

@@ -16,7 +16,8 @@ fn held(table: &[u8]) -> Vec<Vec<u8>> {
     (0..usize::from(u16_at(table, 2))).map(record).collect()
 }
 
-/// A filter as RACP bytes, and the held records it means.
+/// A filter as RACP bytes, and the held records it means: those from one place to another, where
+/// the place of a number is that of the record that has it.
 fn some_filter(random: &mut Random, records: &[Vec<u8>]) -> (Vec<u8>, Vec<Vec<u8>>) {
     let numbers: Vec<u16> = records.iter().map(|record| u16_at(record, 0)).collect();
     let mut edge = || match numbers.is_empty() {
@@ -24,30 +25,27 @@ fn some_filter(random: &mut Random, records: &[Vec<u8>]) -> (Vec<u8>, Vec<Vec<u8
         false => random.pick(&numbers).wrapping_add(random.pick(&[0, 0, 1, 65_535])),
     };
     let (one, two) = (edge(), edge());
-    let (least, most) = (one.min(two), one.max(two));
     let operator = 1 + random.below(6) as u8;
     let mut bytes = vec![operator];
-    let (from, to) = match operator {
-        2 => (0, most),
-        3 => (least, 65_535),
-        4 => (least, most),
-        _ => (0, 65_535),
-    };
     if matches!(operator, 2..=4) {
         bytes.push(1);
-        bytes.extend(if operator == 2 { most.to_le_bytes() } else { least.to_le_bytes() });
+        bytes.extend(one.to_le_bytes());
     }
     if operator == 4 {
-        bytes.extend(most.to_le_bytes());
+        bytes.extend(two.to_le_bytes());
     }
-    let mut matching: Vec<_> =
-        records.iter().filter(|r| (from..=to).contains(&u16_at(r, 0))).cloned().collect();
-    match operator {
-        5 => matching.truncate(1),
-        6 => matching = matching.pop().into_iter().collect(),
-        _ => {}
-    }
-    (bytes, matching)
+    let place = |value| numbers.iter().position(|number| *number == value);
+    let newest = records.len().checked_sub(1);
+    let (first, last) = match operator {
+        1 => (Some(0), newest),
+        2 => (Some(0), place(one)),
+        3 => (place(one), newest),
+        4 => (place(one), place(two)),
+        5 => (Some(0), newest.and(Some(0))),
+        _ => (newest, newest),
+    };
+    let matching = first.zip(last).and_then(|(first, last)| records.get(first..=last));
+    (bytes, matching.unwrap_or_default().to_vec())
 }
 
 fn finished_report(reader: &dyn Reader, seed: u64) {

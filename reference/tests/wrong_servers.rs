@@ -17,6 +17,8 @@ enum Wrong {
     SendsEmptySegmentsAfterTheFirst,
     RepeatsSegments,
     NumbersAllHeld,
+    RefusesTurnedRanges,
+    RefusesStatesWithTurnedRanges,
     GoesOnAfterAFault,
     CarriesNothing,
     AlwaysRefusesToCarry,
@@ -25,7 +27,7 @@ enum Wrong {
     KeepsAnyNumber,
 }
 
-const ALL: [Wrong; 14] = [
+const ALL: [Wrong; 16] = [
     Wrong::RejectsEveryProposal,
     Wrong::SaysSuccessToAll,
     Wrong::NeverLogs,
@@ -34,6 +36,8 @@ const ALL: [Wrong; 14] = [
     Wrong::SendsEmptySegmentsAfterTheFirst,
     Wrong::RepeatsSegments,
     Wrong::NumbersAllHeld,
+    Wrong::RefusesTurnedRanges,
+    Wrong::RefusesStatesWithTurnedRanges,
     Wrong::GoesOnAfterAFault,
     Wrong::CarriesNothing,
     Wrong::AlwaysRefusesToCarry,
@@ -64,6 +68,16 @@ fn u16_at_or_0(bytes: &[u8], at: usize) -> u16 {
         return 0;
     }
     u16_at(bytes, at)
+}
+
+/// A request for a range whose minimum is above its maximum, with nothing else wrong.
+fn is_turned(write: &[u8]) -> bool {
+    matches!(write, [1 | 4 | 7, 4, 1, _, _, _, _]) && u16_at(write, 3) > u16_at(write, 5)
+}
+
+/// A state whose report has such a range.
+fn has_turned_range(state: &[u8]) -> bool {
+    state.get(18) == Some(&4) && u16_at_or_0(state, 19) > u16_at_or_0(state, 21)
 }
 
 impl Reader for WrongReader {
@@ -115,14 +129,29 @@ impl Reader for WrongReader {
                 out[0] = header;
                 length
             }
+            Wrong::RefusesStatesWithTurnedRanges if answer > 0 && has_turned_range(&old_state) => {
+                state.copy_from_slice(&old_state);
+                out.copy_from_slice(&old_out);
+                -2
+            }
             _ => answer,
         }
     }
 
     fn racp_write(&self, state: &mut [u8], table: &[u8], write: &[u8], out: &mut [u8]) -> i32 {
+        let old_state = state.to_vec();
         let answer = self.right.racp_write(state, table, write, out);
-        if self.wrong == Wrong::NumbersAllHeld && answer == 4 && out[0] == 5 {
-            put_u16(out, 2, u16_at(table, 2));
+        match self.wrong {
+            Wrong::NumbersAllHeld if answer == 4 && out[0] == 5 => {
+                put_u16(out, 2, u16_at(table, 2));
+            }
+            // 0x05, as it was before change request E1, also where the range has records.
+            Wrong::RefusesTurnedRanges if answer >= 0 && is_turned(write) => {
+                state.copy_from_slice(&old_state);
+                out[..4].copy_from_slice(&[6, 0, write[0], 5]);
+                return 4;
+            }
+            _ => {}
         }
         answer
     }
@@ -173,6 +202,9 @@ impl Reader for WrongReader {
         self.right.start(state, table)
     }
     fn seconds(&self, state: &mut [u8], n: u32) -> i32 {
+        if self.wrong == Wrong::RefusesStatesWithTurnedRanges && has_turned_range(state) {
+            return -2;
+        }
         self.right.seconds(state, n)
     }
     fn switches(&self, state: &mut [u8], dtcp: u8, racp: u8, log: u8) -> i32 {
