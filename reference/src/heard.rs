@@ -1,9 +1,13 @@
-//! What a tablet makes of a report as it is heard, and of stamps: lines of text with a reader's
-//! answers, made with nothing but its public calls, so that those of any reader can be compared
-//! with the samples. Of each line only what comes before its answer is looked at.
+//! What a tablet makes of a report as it is heard, and of stamps, and what it gets that asks for
+//! records by number: lines of text with a reader's answers, made with nothing but its public
+//! calls, so that those of any reader can be compared with the samples. Of each line only what
+//! comes before its answer is looked at.
 
+use crate::access::{NUMBER, REPORT};
 use crate::joining::JOINING_BYTES;
+use crate::numbers::PAPER;
 use crate::reader::Reader;
+use crate::report::report;
 
 /// Where the record's bytes begin in the joining state.
 const RECORD_AT: usize = 3;
@@ -44,6 +48,38 @@ pub fn carried(reader: &dyn Reader, table: &[u8], stamps: &str) -> String {
         lines += &format!("{stamp} {q} {answer}\n");
     }
     lines
+}
+
+/// An operator and its operand a line in hexadecimal, each with the response to their number and
+/// the sequence numbers of the records that their report hands over.
+pub fn asked(reader: &dyn Reader, table: &[u8], requests: &str) -> String {
+    let mut lines = String::new();
+    for line in requests.lines() {
+        let first = line.split(' ').next().unwrap_or("");
+        let answers = |opcode: u8| {
+            let write = [&[opcode], &bytes_of(first)[..]].concat();
+            report(reader, table, &write, &[PAPER.smallest_payload])
+        };
+        let number = answers(NUMBER);
+        let number = number.trim_end().trim_start_matches("answers ");
+        lines += &format!("{first} {number}{}\n", handed_over(reader, &answers(REPORT)));
+    }
+    lines
+}
+
+/// The numbers of a report's records, a space before each. Where nothing matches the report has
+/// that one answer; what else might come shows as it is.
+fn handed_over(reader: &dyn Reader, heard: &str) -> String {
+    if heard == "answers 06000106\n" {
+        return String::new();
+    }
+    let joined = joined(reader, heard);
+    let numbers = joined.lines().filter_map(|line| match line.split(' ').collect::<Vec<_>>()[..] {
+        [_, "record", number, ..] => Some(format!(" {number}")),
+        [_, "more"] | ["closes", "06000101", ..] => None,
+        _ => Some(format!(" {line}")),
+    });
+    numbers.collect()
 }
 
 fn read(reader: &dyn Reader, record: &[u8]) -> String {

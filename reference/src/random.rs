@@ -693,10 +693,7 @@ impl Maker {
     /// oldest held.
     fn likely_range(&mut self, world: &World) -> (u16, u16) {
         let (one, two) = (self.likely_sequence(world), self.likely_sequence(world));
-        let before = match world.table.len() < HEADER_BYTES {
-            true => 0,
-            false => u16_at(&world.table, 8).wrapping_sub(u16_at(&world.table, 2).wrapping_add(1)),
-        };
+        let before = before_oldest(world);
         let turned = one.wrapping_sub(before) > two.wrapping_sub(before);
         if turned && self.random.one_in(2) {
             return (two, one);
@@ -842,6 +839,15 @@ impl Maker {
 
 fn is_running(world: &World) -> bool {
     world.state.get(17).is_some_and(|opcode| *opcode != 0)
+}
+
+/// The number before the oldest held one.
+fn before_oldest(world: &World) -> u16 {
+    if world.table.len() < HEADER_BYTES {
+        return 0;
+    }
+    let held = u16_at(&world.table, 2);
+    u16_at(&world.table, 8).wrapping_sub(held).wrapping_sub(1)
 }
 
 fn base_of(world: &World) -> u32 {

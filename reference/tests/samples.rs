@@ -1,6 +1,6 @@
 //! The samples that come with the repository, held against the reference.
 
-use reference::heard::{carried, joined};
+use reference::heard::{asked, carried, joined};
 use reference::listing::listing;
 use reference::reader::Reference;
 use reference::report::{report, ALL_RECORDS, COMBINED};
@@ -79,6 +79,15 @@ fn carried_stamps_are_the_references() {
         let table = fs::read(path.with_extension("table")).unwrap();
         let stored = text(&path);
         assert_eq!(carried(&Reference::new(), &table, &stored), stored, "{}", path.display());
+    }
+}
+
+#[test]
+fn requests_by_number_are_the_references() {
+    for path in files(|kind| kind == "asked") {
+        let table = fs::read(path.with_extension("table")).unwrap();
+        let stored = text(&path);
+        assert_eq!(asked(&Reference::new(), &table, &stored), stored, "{}", path.display());
     }
 }
 

@@ -295,7 +295,7 @@ static void an_empty_log(void)
     expect_response(HANDLE_RACP, "0101", "06000106");
     expect_response(HANDLE_RACP, "0100", "06000103");
     expect_response(HANDLE_RACP, "0201", "06000202");
-    expect_response(HANDLE_RACP, "04040105000300", "06000405");
+    expect_response(HANDLE_RACP, "04040105000300", "05000000");
     expect_response(HANDLE_RACP, "0300", "06000307");
     expect_quiet();
 }
@@ -364,7 +364,7 @@ static void a_time_fault(void)
     expect_carried(800000070, 3, 0, 800000070);
 }
 
-/* Cases 3, 4, 5, 12; the log of four slots overwrites its oldest records. */
+/* Cases 3, 4, 5, 12; the log of four slots overwrites its oldest records, and a number that is gone matches nothing. */
 static void the_ends_of_the_ranges(void)
 {
     printf("- the ends of the ranges\n");
@@ -381,6 +381,7 @@ static void the_ends_of_the_ranges(void)
     expect_response(HANDLE_DTCP, "0343000008af2fcf000201", "0903050400");
     expect_response(HANDLE_RACP, "0401", "05000400");
     expect_response(HANDLE_RACP, "0402010300", "05000000");
+    expect_response(HANDLE_RACP, "0403010300", "05000000");
     expect_read(HANDLE_DEVICE_TIME, "0008af2f" "80" "00" "1200" "0800");
 }
 
