@@ -72,7 +72,8 @@ impl Seen {
         *self.numbers.entry(name(call)).or_default().entry(-answer.min(0)).or_default() += 1;
         let running = before.state.get(17).is_some_and(|opcode| *opcode != 0);
         let out = &after.out;
-        if running && before.state[18] == 4 && before.table.len() >= 16 {
+        let lent = before.state.len() == 32 && before.table.len() >= 16;
+        if running && lent && before.state[18] == 4 {
             self.range_running(call, answer, before);
         }
         match call {
@@ -178,14 +179,14 @@ impl Seen {
     fn range_running(&mut self, call: &Call, answer: i32, before: &World) {
         let (minimum, maximum) = (u16_at(&before.state, 19), u16_at(&before.state, 21));
         let turned = place(&before.table, minimum) > place(&before.table, maximum);
-        let left = before.state[24] == 1;
+        let (above, left) = (minimum > maximum, before.state[24] == 1);
         let event = match call {
-            Call::Seconds(_) | Call::Switches(..) | Call::Disconnect if answer == 0 && turned => {
-                "turned range in a state"
+            Call::Seconds(_) | Call::Switches(..) | Call::Disconnect if answer == 0 && above => {
+                "minimum above maximum in a state"
             }
             Call::Notify(_) if answer == -2 && turned && left => "next record of a turned range",
             Call::Notify(_) if answer > 256 && turned => "turned range closed",
-            Call::Notify(_) if answer > 256 && minimum > maximum => "range over the roll closed",
+            Call::Notify(_) if answer > 256 && above => "range over the roll closed",
             _ => return,
         };
         self.events.insert(event);
@@ -269,7 +270,7 @@ fn sequences_reach_everything() {
             "range whose maximum isn't held",
             "range whose minimum isn't held",
             "range with no end held",
-            "turned range in a state",
+            "minimum above maximum in a state",
             "next record of a turned range",
             "turned range closed",
             "range over the roll closed",
