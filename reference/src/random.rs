@@ -487,7 +487,7 @@ impl Maker {
 
     /// A field of the state with a value at an edge of its range, or any byte of it.
     fn state_damage(&mut self, world: &World) -> (usize, Vec<u8>) {
-        match self.random.below(22) {
+        match self.random.below(26) {
             0 => (0, self.random.pick(&BASE_EDGES).to_le_bytes().to_vec()),
             1 => (4, vec![self.random.pick(&ZONE_EDGES)]),
             2 => (5, vec![self.random.pick(&DST_EDGES)]),
@@ -505,7 +505,7 @@ impl Maker {
             14 => (25, self.likely_sequence(world).to_le_bytes().to_vec()),
             15 => (27, vec![self.random.pick(&SENT_EDGES)]),
             16 => (28 + self.random.below(4), vec![1]),
-            17..=19 => (17, self.some_report(world)),
+            17..=23 => (17, self.some_report(world)),
             _ => (self.random.below(32), vec![self.random.byte()]),
         }
     }
@@ -513,8 +513,8 @@ impl Maker {
     /// Bytes 17 to 27 of a state with a report, right or nearly right.
     fn some_report(&mut self, world: &World) -> Vec<u8> {
         let mut bytes = vec![0; 11];
-        bytes[0] = self.random.pick(&[1, 7, 7, 2]);
-        bytes[1] = self.random.pick(&[1, 2, 3, 4, 4, 4, 5, 6]);
+        bytes[0] = self.random.pick(&[1, 1, 1, 7, 7, 7, 2]);
+        bytes[1] = self.random.pick(&[1, 2, 2, 3, 3, 4, 4, 4, 5, 6]);
         let (minimum, maximum) = self.likely_range(world);
         if matches!(bytes[1], 3 | 4) || self.random.one_in(20) {
             put_u16(&mut bytes, 2, minimum);
@@ -522,11 +522,11 @@ impl Maker {
         if matches!(bytes[1], 2 | 4) || self.random.one_in(20) {
             put_u16(&mut bytes, 4, maximum);
         }
-        bytes[6] = self.random.pick(&[0, 1, 30, 62, 63, 64]);
+        bytes[6] = self.random.pick(&[0, 0, 0, 1, 30, 62, 63, 64]);
         if !self.random.one_in(4) {
             bytes[7] = 1;
             put_u16(&mut bytes, 8, self.likely_sequence(world));
-            bytes[10] = self.random.pick(&SENT_EDGES);
+            bytes[10] = if self.random.one_in(2) { 0 } else { self.random.pick(&SENT_EDGES) };
         }
         bytes
     }
