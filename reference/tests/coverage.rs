@@ -244,8 +244,8 @@ fn sequences_reach_everything() {
     assert_eq!(seen.segment_bits, BTreeSet::from([0, 1, 2, 3]));
     assert_eq!(seen.counters, BTreeSet::from_iter(0..64));
     assert_eq!(seen.closings, BTreeSet::from([6, 8]));
-    // A table lent with a slot more or less may have been started anew.
-    assert!(seen.slots.is_superset(&BTreeSet::from([1, 2, 3, 5, 40, 1_023])), "{:?}", seen.slots);
+    // 4: a table of five slots that was lent with one less, and started anew.
+    assert_eq!(seen.slots, BTreeSet::from([1, 2, 3, 4, 5, 40, 1_023]));
     assert_eq!(
         seen.events,
         BTreeSet::from([
