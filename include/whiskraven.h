@@ -121,7 +121,7 @@ extern "C" {
 #endif
 
 /* This header's version: see VERSION above. */
-#define DTS_VERSION_MAJOR 3
+#define DTS_VERSION_MAJOR 4
 #define DTS_VERSION_MINOR 0
 
 /* Sizes, in bytes. */
@@ -253,13 +253,17 @@ enum {
     DTS_RACP_COMBINED_RESPONSE = 8 /* then 0 and the count, 2 bytes */
 };
 
-/* Operators; the operand of 2 to 4 begins with DTS_RACP_SEQUENCE_TYPE. */
+/*
+ * Operators; the operand of 2 to 4 is DTS_RACP_SEQUENCE_TYPE and one number or two. A number names the held record
+ * that has it, and records go by age: 65,535 and all newer goes on to 0. Where no held record has the number, or
+ * the maximum's is older than the minimum's, nothing matches.
+ */
 enum {
     DTS_RACP_NULL = 0,            /* of an Abort, and of responses */
     DTS_RACP_ALL_RECORDS = 1,
-    DTS_RACP_AT_MOST = 2,
-    DTS_RACP_AT_LEAST = 3,
-    DTS_RACP_WITHIN_RANGE = 4,
+    DTS_RACP_AT_MOST = 2,         /* the named record and all older */
+    DTS_RACP_AT_LEAST = 3,        /* the named record and all newer */
+    DTS_RACP_WITHIN_RANGE = 4,    /* from the minimum's record forward to the maximum's */
     DTS_RACP_FIRST_RECORD = 5,
     DTS_RACP_LAST_RECORD = 6
 };

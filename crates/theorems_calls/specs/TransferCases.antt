@@ -1,15 +1,16 @@
--- Cases of notifications and of record access, run by the checker on the definitions that the calls' promises cite. NO1 to NO21 and RA33 to
--- RA57 are test vectors worked out from document 01 apart from these definitions.
+-- Cases of notifications and of record access, run by the checker on the definitions that the calls' promises cite. NO1 to NO21 and RA32 to
+-- RA63 are test vectors worked out from document 01, those of RN1 to RN77 from change request E1, apart from these definitions.
 use mathlib.Core.Path.{_≡_}
 use mathlib.Core.Bool.{Bool, true, false}
 use mathlib.Core.List.{List, [], _∷_, _++_, map}
 use Prim.Native.Nat.{ℕ, _-_}
 use lib.ListN.{length, replicate}
+use Rattle.octets.specs.Numbers.{bytes2}
 use Rattle.octets.specs.Parts.{zerosB, over}
 use Rattle.rules.specs.Fields.{baseB, zoneB, dstB, sourceB, statusB, bitsB}
 use Rattle.filter.specs.Filter.{matchesB}
 use Rattle.filter.specs.declared.filter.Filter.{Filter}
-use Rattle.filter.specs.declared.filter.Filter.the-variants.{All, AtLeast, First, Last}
+use Rattle.filter.specs.declared.filter.Filter.the-variants.{All, AtMost, AtLeast, Range, First, Last}
 use Rattle.record.specs.Fields.{sequenceOf}
 use Rattle.record_write.specs.Layout.{updateBytes, faultBytes, bytesOf, updateRead, faultRead, recordOf, sizedB, shapeB}
 use Rattle.record_read.specs.Reading.{updateB, faultB, recordB, wellFormedB}
@@ -68,6 +69,16 @@ t3 = logAll (fresh 4) (update 0 0x19 800000000 631152000 ∷ update 1 0x16 80000
 
 unfoldable pub t4 : List ℕ
 t4 = logAll (fresh 4) (update 0 0x19 800000000 631152000 ∷ update 1 0x16 800000070 800000100 ∷ fault ∷ [])
+
+-- and a log whose numbers have rolled: 65,534, 65,535, 0 and 1
+unfoldable pub rolled : List ℕ
+rolled =
+    logAll (over (fresh 4) 8 (bytes2 65534))
+    (update 65534 0x16 800000010 800000000
+    ∷ update 65535 0x16 800000011 800000010
+    ∷ update 0 0x16 800000012 800000011
+    ∷ update 1 0x16 800000013 800000012
+    ∷ [])
 
 -- the clock after record 1, by its switches and its report
 abbrev on : Bool → Bool → Bool → Running → Clock
@@ -168,8 +179,8 @@ accessDone k = accessOf (k .clock) (k .table) (k .write) (lent 20)
 
 -- the tables laid open
 unfoldable pub tablesOpen : List (List ℕ)
-unfolding t0 t3 t4 fresh logAll appendOf placeOf steps slotOf headerAfter over bytesOf updateBytes faultBytes
-tablesOpen = t0 ∷ t3 ∷ t4 ∷ []
+unfolding t0 t3 t4 rolled fresh logAll appendOf placeOf steps slotOf headerAfter over bytesOf updateBytes faultBytes
+tablesOpen = t0 ∷ t3 ∷ t4 ∷ rolled ∷ []
 
 abbrev pub expectedNotice : Asking → Notice
 expectedNotice k = k .notice
@@ -217,6 +228,20 @@ askings =
     (0x01 ∷ 0x02 ∷ 0x00 ∷ 0x00 ∷ 0x00 ∷ 0x00 ∷ 0x00 ∷ 0x19 ∷ 0x00 ∷ 0x16 ∷ 0x00 ∷ 0x00 ∷ 0x00 ∷ 0x46 ∷ 0x08 ∷ 0xaf ∷ 0x2f ∷ 0x6e ∷ 0x08 ∷ 0xaf ∷ [])
     ∷ segment (s4 (runs 1 Last 0 (From 2 0))) t4 21 21 (s4 (runs 1 Last 1 Nothing))
     (0x03 ∷ 0x02 ∷ 0x00 ∷ 0x00 ∷ 0x00 ∷ 0x00 ∷ 0x00 ∷ 0x19 ∷ 0x00 ∷ 0x16 ∷ 0x00 ∷ 0x00 ∷ 0x00 ∷ 0x46 ∷ 0x08 ∷ 0xaf ∷ 0x2f ∷ 0x6e ∷ 0x08 ∷ 0xaf ∷ 0x2f ∷ [])
+    -- RN49, RN50: a range over the roll, from the end of 65,535 on to 0
+    ∷ segment (s3 (runs 1 (Range 65535 0) 0 (From 65535 0))) rolled 20 20 (s3 (runs 1 (Range 65535 0) 1 (From 65535 19)))
+    (0x01 ∷ 0xff ∷ 0xff ∷ 0x01 ∷ 0x00 ∷ 0x00 ∷ 0x00 ∷ 0x16 ∷ 0x00 ∷ 0x16 ∷ 0x00 ∷ 0x00 ∷ 0x00 ∷ 0x04 ∷ 0x00 ∷ 0x02 ∷ 0x01 ∷ 0x0b ∷ 0x08 ∷ 0xaf ∷ [])
+    ∷ segment (s3 (runs 1 (Range 65535 0) 1 (From 65535 19))) rolled 20 20 (s3 (runs 1 (Range 65535 0) 2 (From 0 0)))
+    (0x06 ∷ 0x2f ∷ 0x0a ∷ 0x08 ∷ 0xaf ∷ 0x2f ∷ [])
+    -- RN69 to RN71: the next record matches by age
+    ∷ segment (s3 (runs 1 (Range 65535 0) 0 (From 0 0))) rolled 20 20 (s3 (runs 1 (Range 65535 0) 1 (From 0 19)))
+    (0x01 ∷ 0x00 ∷ 0x00 ∷ 0x01 ∷ 0x00 ∷ 0x00 ∷ 0x00 ∷ 0x16 ∷ 0x00 ∷ 0x16 ∷ 0x00 ∷ 0x00 ∷ 0x00 ∷ 0x04 ∷ 0x00 ∷ 0x02 ∷ 0x01 ∷ 0x0c ∷ 0x08 ∷ 0xaf ∷ [])
+    ∷ silent (s3 (runs 1 (Range 65535 0) 0 (From 1 0))) rolled 20 20 ClockBroken
+    ∷ segment (s3 (runs 1 (AtLeast 65535) 0 (From 1 0))) rolled 20 20 (s3 (runs 1 (AtLeast 65535) 1 (From 1 19)))
+    (0x01 ∷ 0x01 ∷ 0x00 ∷ 0x01 ∷ 0x00 ∷ 0x00 ∷ 0x00 ∷ 0x16 ∷ 0x00 ∷ 0x16 ∷ 0x00 ∷ 0x00 ∷ 0x00 ∷ 0x04 ∷ 0x00 ∷ 0x02 ∷ 0x01 ∷ 0x0d ∷ 0x08 ∷ 0xaf ∷ [])
+    -- a maximum older than its minimum: with none left it closes with 0, a next record can't match
+    ∷ closing (s3 (runs 7 (Range 0 65535) 0 Nothing)) rolled 20 20 (0x08 ∷ 0x00 ∷ 0x00 ∷ 0x00 ∷ [])
+    ∷ silent (s3 (runs 1 (Range 0 65535) 0 (From 0 0))) rolled 20 20 ClockBroken
     ∷ []
 
 unfoldable pub writings : List Writing
@@ -252,6 +277,24 @@ writings =
     ∷ denies (s3 (runs 1 All 0 (From 0 0))) t3 (0x03 ∷ 0x03 ∷ 0x03 ∷ 0x03 ∷ 0x03 ∷ 0x03 ∷ 0x03 ∷ 0x03 ∷ 0x03 ∷ 0x03 ∷ 0x03 ∷ 0x03 ∷ 0x03 ∷ 0x03 ∷ 0x03 ∷ 0x03 ∷ 0x03 ∷ 0x03 ∷ 0x03 ∷ 0x03 ∷ 0x03 ∷ []) WriteLength
     ∷ denies (quiet Idle) t3 (0x04 ∷ 0x01 ∷ []) SwitchedOff
     ∷ answers (on false true true Idle) t3 (0x04 ∷ 0x01 ∷ []) (on false true true Idle) (0x05 ∷ 0x00 ∷ 0x02 ∷ 0x00 ∷ [])
+    -- RA58 to RA63: by place on a log that has rolled
+    ∷ answers (s3 Idle) rolled (0x04 ∷ 0x03 ∷ 0x01 ∷ 0xff ∷ 0xff ∷ []) (s3 Idle) (0x05 ∷ 0x00 ∷ 0x03 ∷ 0x00 ∷ [])
+    ∷ answers (s3 Idle) rolled (0x04 ∷ 0x02 ∷ 0x01 ∷ 0x01 ∷ 0x00 ∷ []) (s3 Idle) (0x05 ∷ 0x00 ∷ 0x04 ∷ 0x00 ∷ [])
+    ∷ answers (s3 Idle) rolled (0x04 ∷ 0x04 ∷ 0x01 ∷ 0x00 ∷ 0x00 ∷ 0xff ∷ 0xff ∷ []) (s3 Idle) (0x05 ∷ 0x00 ∷ 0x00 ∷ 0x00 ∷ [])
+    ∷ answers (s3 Idle) rolled (0x04 ∷ 0x04 ∷ 0x01 ∷ 0xfe ∷ 0xff ∷ 0x01 ∷ 0x00 ∷ []) (s3 Idle) (0x05 ∷ 0x00 ∷ 0x04 ∷ 0x00 ∷ [])
+    ∷ answers (s3 Idle) rolled (0x01 ∷ 0x02 ∷ 0x01 ∷ 0x01 ∷ 0x00 ∷ []) (s3 (runs 1 (AtMost 1) 0 (From 65534 0))) []
+    ∷ answers (s3 Idle) rolled (0x01 ∷ 0x04 ∷ 0x01 ∷ 0x00 ∷ 0x00 ∷ 0xff ∷ 0xff ∷ []) (s3 Idle) (0x06 ∷ 0x00 ∷ 0x01 ∷ 0x06 ∷ [])
+    -- RN9, RN4, RN5: at most 0, at least one that is overwritten, at least the next number
+    ∷ answers (s3 Idle) rolled (0x04 ∷ 0x02 ∷ 0x01 ∷ 0x00 ∷ 0x00 ∷ []) (s3 Idle) (0x05 ∷ 0x00 ∷ 0x03 ∷ 0x00 ∷ [])
+    ∷ answers (s3 Idle) rolled (0x04 ∷ 0x03 ∷ 0x01 ∷ 0xfd ∷ 0xff ∷ []) (s3 Idle) (0x05 ∷ 0x00 ∷ 0x00 ∷ 0x00 ∷ [])
+    ∷ answers (s3 Idle) rolled (0x04 ∷ 0x03 ∷ 0x01 ∷ 0x02 ∷ 0x00 ∷ []) (s3 Idle) (0x05 ∷ 0x00 ∷ 0x00 ∷ 0x00 ∷ [])
+    -- RN16, RN17, RN22: a range with one end not held, not clipped; over the roll
+    ∷ answers (s3 Idle) rolled (0x04 ∷ 0x04 ∷ 0x01 ∷ 0xfd ∷ 0xff ∷ 0x01 ∷ 0x00 ∷ []) (s3 Idle) (0x05 ∷ 0x00 ∷ 0x00 ∷ 0x00 ∷ [])
+    ∷ answers (s3 Idle) rolled (0x04 ∷ 0x04 ∷ 0x01 ∷ 0xfe ∷ 0xff ∷ 0x02 ∷ 0x00 ∷ []) (s3 Idle) (0x05 ∷ 0x00 ∷ 0x00 ∷ 0x00 ∷ [])
+    ∷ answers (s3 Idle) rolled (0x01 ∷ 0x04 ∷ 0x01 ∷ 0xff ∷ 0xff ∷ 0x00 ∷ 0x00 ∷ []) (s3 (runs 1 (Range 65535 0) 0 (From 65535 0))) []
+    -- RA32, RN48: a minimum above its maximum, where both are not held and on an empty log
+    ∷ answers (s3 Idle) t3 (0x01 ∷ 0x04 ∷ 0x01 ∷ 0x05 ∷ 0x00 ∷ 0x03 ∷ 0x00 ∷ []) (s3 Idle) (0x06 ∷ 0x00 ∷ 0x01 ∷ 0x06 ∷ [])
+    ∷ answers sx t0 (0x01 ∷ 0x04 ∷ 0x01 ∷ 0x05 ∷ 0x00 ∷ 0x03 ∷ 0x00 ∷ []) sx (0x06 ∷ 0x00 ∷ 0x01 ∷ 0x06 ∷ [])
     ∷ []
 
 pub record Computed : Type 0 where
