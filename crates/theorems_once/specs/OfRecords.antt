@@ -14,6 +14,8 @@ use Rattle.filter.proofs.filter.place_by_age.Kinds as place-by-age-kinds
 use Rattle.filter.proofs.filter.place_by_age.Reads as place-by-age-reads
 use Rattle.filter.proofs.filter.start_age.Kinds as start-age-kinds
 use Rattle.filter.proofs.filter.start_age.Reads as start-age-reads
+use Rattle.filter.proofs.filter.end_age.Kinds as end-age-kinds
+use Rattle.filter.proofs.filter.end_age.Reads as end-age-reads
 use Rattle.filter.proofs.filter.matches.Kinds as matches-kinds
 use Rattle.filter.proofs.filter.matches.Reads as matches-reads
 use Rattle.record.proofs.fields.sequence_of.Kinds as sequence-of-kinds
@@ -43,6 +45,7 @@ pub record OneOutcome : Type 0 where
   pub status-ok : Only status-ok-kinds.ps status-ok-kinds.r status-ok-reads.Pre status-ok-reads.Post
   pub place-by-age : Only place-by-age-kinds.ps place-by-age-kinds.r place-by-age-reads.Pre place-by-age-reads.Post
   pub start-age : Only start-age-kinds.ps start-age-kinds.r start-age-reads.Pre start-age-reads.Post
+  pub end-age : Only end-age-kinds.ps end-age-kinds.r end-age-reads.Pre end-age-reads.Post
   pub matches : Only matches-kinds.ps matches-kinds.r matches-reads.Pre matches-reads.Post
   pub sequence-of : Only sequence-of-kinds.ps sequence-of-kinds.r sequence-of-reads.Pre sequence-of-reads.Post
   pub type-of : Only type-of-kinds.ps type-of-kinds.r type-of-reads.Pre type-of-reads.Post

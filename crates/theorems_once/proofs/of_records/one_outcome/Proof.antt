@@ -14,6 +14,7 @@ returns c =
       status-ok = λ κs a x y u v h p q. (p ∙ sym q, refl);
       place-by-age = λ κs a x y u v h p q. (p ∙ sym q, refl);
       start-age = λ κs a x y u v h p q. (p ∙ sym q, refl);
+      end-age = λ κs a x y u v h p q. (p ∙ sym q, refl);
       matches = λ κs a x y u v h p q. (p ∙ sym q, refl);
       sequence-of = λ κs a x y u v h p q. (p ∙ sym q, refl);
       type-of = λ κs a x y u v h p q. (p ∙ sym q, refl);
