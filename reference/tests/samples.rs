@@ -2,7 +2,7 @@
 
 use reference::heard::{asked, carried, joined};
 use reference::listing::listing;
-use reference::reader::Reference;
+use reference::reader::{Reader, Reference};
 use reference::report::{report, ALL_RECORDS, COMBINED};
 use reference::season;
 use std::fs;
@@ -73,22 +73,23 @@ fn joined_reports_are_the_references() {
     }
 }
 
-#[test]
-fn carried_stamps_are_the_references() {
-    for path in files(|kind| kind == "carried") {
+/// The files of this kind that go with a table, each line made anew from what comes before its answer.
+fn are_the_references(kind: &str, made: fn(&dyn Reader, &[u8], &str) -> String) {
+    for path in files(|other| other == kind) {
         let table = fs::read(path.with_extension("table")).unwrap();
         let stored = text(&path);
-        assert_eq!(carried(&Reference::new(), &table, &stored), stored, "{}", path.display());
+        assert_eq!(made(&Reference::new(), &table, &stored), stored, "{}", path.display());
     }
 }
 
 #[test]
+fn carried_stamps_are_the_references() {
+    are_the_references("carried", carried);
+}
+
+#[test]
 fn requests_by_number_are_the_references() {
-    for path in files(|kind| kind == "asked") {
-        let table = fs::read(path.with_extension("table")).unwrap();
-        let stored = text(&path);
-        assert_eq!(asked(&Reference::new(), &table, &stored), stored, "{}", path.display());
-    }
+    are_the_references("asked", asked);
 }
 
 #[test]
