@@ -314,7 +314,7 @@ unfolding callsOf callOf
 asks-are p [] = refl
 asks-are p (o ∷ os) = ap (λ (l : List Call). calls.notify p o ∷ l) (asks-are p os)
 
-reports : (v : World) (w o : List ℕ) (hw : Bytes w) (f : Filter) → Fit v → AcceptedAt (imageIn v) w o hw f → ReportsAt (imageIn v) w o hw f
+pub reports : (v : World) (w o : List ℕ) (hw : Bytes w) (f : Filter) → Fit v → AcceptedAt (imageIn v) w o hw f → ReportsAt (imageIn v) w o hw f
 reports v w o hw f x a =
     let c = accepted-is v w o hw f x a in
     let b = x .good .bytes in

@@ -158,6 +158,21 @@ Reported h a = heardOf (buffer 144) (on ∷ set h 800000000 ∷ []) (racpWrite (
       got = gotAt (reading (pos 0) (0 ∷ 1 ∷ 0x16 ∷ 0x19 ∷ 0 ∷ 4 ∷ 0 ∷ 2 ∷ 1 ∷ 800000000 ∷ 631152000 ∷ []) ∷ []) true;
     }
 
+-- A report by number: of the records 1, 2 and 3, which a log of three slots holds after four updates, record 2 and all newer.
+abbrev Named : Writable → ((n : ℕ) → Bytes (1 ∷ 3 ∷ 1 ∷ 2 ∷ 0 ∷ [])) → Type 0
+Named h a = heardOf (buffer 208) (on ∷ set h 800000000 ∷ set h 800000001 ∷ set h 800000002 ∷ set h 800000003 ∷ [])
+    (racpWrite (1 ∷ 3 ∷ 1 ∷ 2 ∷ 0 ∷ []) output (a 0)) (notify 244 output ∷ notify 20 output ∷ notify 20 output ∷ notify 244 output ∷ [])
+    ≡ record {
+      accepted = pos 0;
+      closed = true;
+      response = 6 ∷ 0 ∷ 1 ∷ 1 ∷ [];
+      got = gotAt
+          (reading (pos 0) (2 ∷ 1 ∷ 0x16 ∷ 0x16 ∷ 0 ∷ 4 ∷ 0 ∷ 2 ∷ 1 ∷ 800000002 ∷ 800000001 ∷ [])
+          ∷ reading (pos 0) (3 ∷ 1 ∷ 0x16 ∷ 0x16 ∷ 0 ∷ 4 ∷ 0 ∷ 2 ∷ 1 ∷ 800000003 ∷ 800000002 ∷ [])
+          ∷ [])
+          true;
+    }
+
 -- A write to the RACP that is no bytes, AtMost 65,536, makes a report whose filter does not fit its width: `WritesBytes` is needed.
 unfoldable pub runningAfter : List ℕ → List Call → Running
 unfolding callsOpen runOf
@@ -178,8 +193,10 @@ pub record Computed : Type 0 where
   pub writable : Writable
   pub asks : (n : ℕ) → Bytes (1 ∷ 1 ∷ [])
   pub combines : (n : ℕ) → Bytes (7 ∷ 1 ∷ [])
+  pub names : (n : ℕ) → Bytes (1 ∷ 3 ∷ 1 ∷ 2 ∷ 0 ∷ [])
   pub case6 : Case6 writable
   pub faulted : Faulted writable asks
   pub again : Again writable
   pub reported : Reported writable combines
+  pub named : Named writable names
   pub needs-bytes : NeedsBytes writable

@@ -4,6 +4,7 @@ ghost use Rattle.theorems_bytes.specs.Fitting.{FitsKept};
 ghost use Rattle.theorems_bytes.specs.Images.{Images, Restarted};
 ghost use Rattle.theorems_bytes.specs.Stamps.{HoldsLoggedAt, CarriedStampAt};
 ghost use Rattle.theorems_bytes.specs.Reports.{FinishedReportAt};
+ghost use Rattle.theorems_bytes.specs.ByNumber.{ReportedByNumber};
 ghost use Rattle.theorems_bytes.specs.Cases.{Computed};
 
 // Every field of a clock that was reached fits its width.
@@ -33,7 +34,7 @@ pub fn restarted()
     ensures { λ _. ⌜ Restarted ⌝ }
 {}
 
-// Histories over bytes, computed: the paper's case 6, a fault; and a write that is no bytes.
+// Histories over bytes, computed: the paper's case 6, a fault, reports; and a write that is no bytes.
 pub fn computed()
     ensures { λ _. ⌜ Computed ⌝ }
 {}
@@ -42,4 +43,10 @@ pub fn computed()
 // closes among calls that do not end it.
 pub fn finished_report()
     ensures { λ _. ⌜ FinishedReportAt ⌝ }
+{}
+
+// An accepted report by number names held records, and gives exactly those from the one named to the newest, from the
+// oldest to it, or from one to the other.
+pub fn reported_by_number()
+    ensures { λ _. ⌜ ReportedByNumber ⌝ }
 {}

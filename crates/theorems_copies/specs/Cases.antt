@@ -1,5 +1,5 @@
 -- Computed cases of the theorems about copies, the whole way: a report of all records, heard, joined and kept, and stamps carried over the copy. The reader's
--- log has rolled: four records were logged in three slots, so that the first one held has the number 1.
+-- log has wrapped: four records were logged in three slots, so that the first one held has the number 1.
 use mathlib.Core.Path.{_≡_}
 use mathlib.Core.Bool.{Bool, true}
 use mathlib.Core.List.{List, [], _∷_, map}

@@ -1,4 +1,4 @@
--- The same over bytes, the whole way: a reader is started in three slots, set, fails, is set twice more, so that its log has rolled; a report of all
+-- The same over bytes, the whole way: a reader is started in three slots, set, fails, is set twice more, so that its log has wrapped; a report of all
 -- records is asked for with sizes that change, while its clock goes on and a fault is refused; what `dts_join` gives goes to `dts_keep`, and `dts_carry`
 -- carries stamps over the copy.
 use mathlib.Core.Path.{_≡_}

@@ -29,7 +29,7 @@ pub fn carried_copy_at()
     ensures { λ _. ⌜ CarriedCopyAt ⌝ }
 {}
 
-// A log that has rolled, fetched into copies of five slots and of two, and stamps carried over them.
+// A log that has wrapped, fetched into copies of five slots and of two, and stamps carried over them.
 pub fn computed()
     ensures { λ _. ⌜ Computed ⌝ }
 {}

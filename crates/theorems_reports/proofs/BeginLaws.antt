@@ -3,7 +3,7 @@
 use mathlib.Core.Path.{_≡_, refl, sym, _∙_, ap}
 use mathlib.Core.Bool.{true}
 use mathlib.Core.List.{List, []}
-use Prim.Native.Nat.{ℕ}
+use Prim.Native.Nat.{ℕ, suc}
 use native.Mathlib.Omega.{arith}
 use lib.ListN.{length}
 use Rattle.octets.specs.Parts.{Bytes}
@@ -46,6 +46,12 @@ module _ (t : List ℕ) (sd : soundB t ≡ true) (hb : Bytes t) (opcode : ℕ) (
         stands = some s;
       }
 
+  -- and has something to send
+  left-some : {rest : Left} {sent : ℕ} {l : List Record} → Stands t sd f rest sent l → responseIn (begunOf c opcode f rest) ≡ [] → l ≡ [] → ⊥
+  unfolding begunOf accessed codeBytes
+  left-some none e q = let n : _≡_ {A = ℕ} 4 0 = ap length e in absurd (omega arith)
+  left-some (some {number} {sent} {x} {rest} s) e q = let n : suc (length rest) ≡ 0 = ap length q in absurd (omega arith)
+
 -- the rows that were passed, and what was found
 record Answered (v : World) (w o : List ℕ) (f : Filter) : Type 0 where
   sound : soundB (v .table) ≡ true
@@ -87,3 +93,10 @@ accepted v w o f hb a =
       runs = begins (v .table) (x .sound) hb (opcodeIn w) f (v .clock) (x .clock) (request-report w f (a .asked)) (x .stands)
           (sym (x .response) ∙ a .silent);
     }
+
+-- a report of which nothing matches is not accepted
+pub accepted-some : (v : World) (w o : List ℕ) (f : Filter) → Bytes (v .table) → Accepted v w o f → matching f (v .table) ≡ [] → ⊥
+accepted-some v w o f hb a q =
+    let x = answered-report v w o f hb (a .asked) (a .done) in
+    left-some (v .table) (x .sound) hb (opcodeIn w) f (v .clock) (x .clock) (request-report w f (a .asked)) (x .stands)
+    (sym (x .response) ∙ a .silent) q
