@@ -4,7 +4,7 @@ use mathlib.Core.Path.{refl}
 use mathlib.Core.List.{List, [], _∷_}
 use Prim.Native.Nat.{ℕ, zero, suc, _<_}
 use native.Mathlib.Omega.{arith}
-use Rattle.octets.specs.Numbers.{at}
+use Rattle.octets.specs.Numbers.{at, bytes2}
 use Rattle.octets.specs.Parts.{Bytes}
 use Rattle.octets.proofs.NumberLaws.{bytes-two}
 use Rattle.octets.proofs.PartLaws.{bytes-zeros}
@@ -21,9 +21,9 @@ one-more x l h b = record { byte = go }
 pub two-bytes : (x : ℕ) → x < 256 → Bytes (x ∷ 1 ∷ [])
 two-bytes x h = one-more x _ h (one-more 1 [] (omega arith) (bytes-zeros 0))
 
--- record 2 and all newer
-at-least-2 : Bytes (1 ∷ 3 ∷ 1 ∷ 2 ∷ 0 ∷ [])
-at-least-2 = one-more 1 _ (omega arith) (one-more 3 _ (omega arith) (one-more 1 _ (omega arith) (bytes-two 2)))
+-- a report of the record n and all newer
+pub newer-bytes : (n : ℕ) → Bytes (1 ∷ 3 ∷ 1 ∷ bytes2 n)
+newer-bytes n = one-more 1 _ (omega arith) (one-more 3 _ (omega arith) (one-more 1 _ (omega arith) (bytes-two n)))
 
 pub computed : Computed
 unfolding seenOf heardOf runningAfter
@@ -32,7 +32,7 @@ computed =
       writable = writable;
       asks = λ n. two-bytes 1 (omega arith);
       combines = λ n. two-bytes 7 (omega arith);
-      names = λ n. at-least-2;
+      names = λ n. newer-bytes 2;
       case6 = refl;
       faulted = refl;
       again = refl;

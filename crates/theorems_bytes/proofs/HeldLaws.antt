@@ -47,14 +47,14 @@ held-written t hb sd = slots-written t hb (count t) (oldest t) (first t) (rw rin
     ring-is : ring t ≡ slots (count t) t (oldest t)
     ring-is = refl
 
--- the newest of a row of records, as bytes
-map-drop : (n : ℕ) (l : List Record) → map bytesOf (drop n l) ≡ drop n (map bytesOf l)
-map-drop zero l = refl
-map-drop (suc n) [] = refl
-map-drop (suc n) (r ∷ l) = map-drop n l
+pub map-drop : {A B : Type 0} (f : A → B) (n : ℕ) (l : List A) → map f (drop n l) ≡ drop n (map f l)
+map-drop f zero l = refl
+map-drop f (suc n) [] = refl
+map-drop f (suc n) (r ∷ l) = map-drop f n l
 
+-- the newest of a row of records, as bytes
 pub newest-written : (n : ℕ) (l : List Record) → map bytesOf (newest n l) ≡ newest n (map bytesOf l)
-newest-written n l = map-drop (length l - n) l ∙ ap (λ (k : ℕ). drop (k - n) (map bytesOf l)) (sym (length-map l bytesOf))
+newest-written n l = map-drop bytesOf (length l - n) l ∙ ap (λ (k : ℕ). drop (k - n) (map bytesOf l)) (sym (length-map l bytesOf))
 
 pub same-rows : (a b : List (List ℕ)) → sameRowsB a b ≡ true → a ≡ b
 unfolding sameRowsB

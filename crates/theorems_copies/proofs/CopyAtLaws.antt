@@ -8,10 +8,10 @@ use native.Mathlib.Omega.{arith}
 use borrow.Author.Tests.{eq-eqb, ne-eqb}
 use lib.Dec.{eqb}
 use lib.IntN.{ℤ}
-use lib.ListN.{length, replicate, length-drop}
-use Rattle.octets.specs.Choice.{both, pick}
-use Rattle.octets.specs.Parts.{part, Bytes}
-use Rattle.filter.specs.declared.filter.Filter.the-variants.{All}
+use lib.ListN.{length, length-drop}
+use Rattle.octets.specs.Choice.{both}
+use Rattle.octets.specs.Parts.{Bytes}
+use Rattle.filter.specs.declared.filter.Filter.the-variants.{All, AtLeast}
 use Rattle.record.specs.Fields.{mostBytes}
 use Rattle.table.specs.Table.{next, slotsIn, sizeB, soundB}
 use Rattle.table.proofs.HeadLaws.{size-reads}
@@ -22,11 +22,11 @@ use Rattle.joining.specs.declared.joining.Joined.{Joined}
 use Rattle.joining.specs.declared.joining.Joining.{Joining}
 use Rattle.joining.proofs.JoiningLaws.{Joins, refuses, goes-on, ends, join-is, empty-bytes}
 use Rattle.keep.specs.Keep.{keepOf, keepingNumber}
-use Rattle.carry.specs.Stamp.{laterOf, carryOf, carryingNumber}
+use Rattle.carry.specs.Stamp.{laterOf, carryingNumber}
 use Rattle.carry.specs.declared.stamp.Carried.{Carried}
 use Rattle.state_bytes.specs.Results.{refusal}
 use Rattle.state_bytes.specs.State.{stateBytes}
-use Rattle.state_bytes.specs.JoiningState.{joiningBytes, joiningImage}
+use Rattle.state_bytes.specs.JoiningState.{joiningImage}
 use Rattle.state_bytes.proofs.JoiningLaws.{joining-images}
 use Rattle.server_bytes.specs.Start.{startAt}
 use Rattle.tablet_bytes.specs.Calls.{JoinedBytes, joinResult, keepAt, carrying, stampAfter, carryAt}
@@ -36,14 +36,14 @@ use Rattle.theorems_reports.specs.World.{World, newWorld, runOf}
 use Rattle.theorems_reports.specs.Hearing.{Hearing, hearingOf}
 use Rattle.theorems_reports.specs.Reports.{reportBegun}
 use Rattle.theorems_bytes.specs.World.{ByteWorld, ByteCall, racpWrite, stepAt, runAt, historyAt, startedAt, callsOf, imageIn, historyOf}
-use Rattle.theorems_bytes.specs.Reports.{hearingAt}
+use Rattle.theorems_bytes.specs.Reports.{hearingAt, AcceptedAt, allQuietAt}
 use Rattle.theorems_bytes.specs.Stamps.{baseRead, numberRead}
 use Rattle.theorems_bytes.proofs.ImageLaws.{Fit, run-is, run-fit, reached, reached-fit}
 use Rattle.theorems_bytes.proofs.ReportLaws.{accepted-is, heard-is, undisturbed}
 use Rattle.theorems_bytes.proofs.StampLaws.{carried-stamp-at}
-use Rattle.theorems_copies.specs.Copies.{Copy, copy, keepHeard, keepAll, copyOf, CopyOf}
-use Rattle.theorems_copies.specs.CopiesAt.{zeroB, afterKeepingAt, keepHeardAt, keepAllAt, copyAt, Fetched, FetchedCopyAt, CarriedOverCopyAt, CarriedCopyAt}
-use Rattle.theorems_copies.proofs.CopyLaws.{fetched-copy, carried-over-copy}
+use Rattle.theorems_copies.specs.Copies.{Copy, copy, keepHeard, keepAll, keptIn, copyOf, CopyOf, WentOn}
+use Rattle.theorems_copies.specs.CopiesAt.{zeroB, keepHeardAt, keepAllAt, keptAt, copyAt, Fetched, FetchedCopyAt, FetchedOnAt, CarriedOverCopyAt, CarriedCopyAt}
+use Rattle.theorems_copies.proofs.CopyLaws.{fetched-copy, fetched-on, carried-over-copy}
 
 zero-number : (n : ℕ) → zeroB (refusal n) ≡ eqb n 0
 zero-number zero = refl
@@ -73,11 +73,12 @@ start-table : (z u : List ℕ) → length z ≡ stateBytes → sizeB (length u) 
 unfolding startAt newReaderOf startOf
 start-table z u hz hu = rw (eq-eqb (length z) stateBytes hz, hu)
 
+kept-is : (u : List ℕ) (notes : List (List ℕ)) → keptAt u notes ≡ keptIn u notes
+kept-is u notes =
+    ap (λ (j : List ℕ). keepAllAt (copy u true) j notes) (sym (joining-images .zeros)) ∙ keeps-all notes (copy u true) emptyJoining empty-bytes
+
 copy-is : (z u : List ℕ) (notes : List (List ℕ)) → length z ≡ stateBytes → sizeB (length u) ≡ true → copyAt z u notes ≡ copyOf (slotsIn (length u)) notes
-copy-is z u notes hz hu =
-    ap (λ (t : List ℕ). keepAllAt (copy t true) (replicate joiningBytes 0) notes) (start-table z u hz hu)
-    ∙ ap (λ (j : List ℕ). keepAllAt (copy (fresh (slotsIn (length u))) true) j notes) (sym (joining-images .zeros))
-    ∙ keeps-all notes (copy (fresh (slotsIn (length u))) true) emptyJoining empty-bytes
+copy-is z u notes hz hu = ap (λ (t : List ℕ). keptAt t notes) (start-table z u hz hu) ∙ kept-is (fresh (slotsIn (length u))) notes
 
 -- what is fetched at b
 abbrev Fetches : (w o : List ℕ) → Bytes w → List ByteCall → List ℕ → List ℕ → ByteWorld → Type 0
@@ -102,6 +103,28 @@ pub fetched-copy-at : FetchedCopyAt
 fetched-copy-at s t before w o hw ks z u hs ht hz hu =
     subst (Fetches w o hw ks z u) (sym (reached s t hs ht before))
     (at-image (historyOf (newWorld t) before) w o hw ks z u (reached-fit s t hs ht before) hz hu)
+
+-- what is new at b, kept in the copy u
+abbrev GoesOn : (w o : List ℕ) → Bytes w → List ByteCall → List ℕ → ByteWorld → Type 0
+GoesOn w o hw ks u b = AcceptedAt b w o hw (AtLeast (next u)) → allQuietAt (stepAt b (racpWrite w o hw)) ks ≡ true
+    → hearingAt (stepAt b (racpWrite w o hw)) ks .closed ≡ true
+    → let c = keptAt u (hearingAt (stepAt b (racpWrite w o hw)) ks .notes) in (c .fine ≡ true) × WentOn (b .table) u (c .table)
+
+on-image : (v : World) (w o : List ℕ) (hw : Bytes w) (ks : List ByteCall) (u : List ℕ) → Fit v → Bytes u → soundB u ≡ true → GoesOn w o hw ks u (imageIn v)
+on-image v w o hw ks u x hu su asked quiet closed =
+    let accepted = accepted-is v w o hw (AtLeast (next u)) x asked in
+    let heard = heard-is v w o hw ks x in
+    let notes : List (List ℕ) = hearingAt (stepAt (imageIn v) (racpWrite w o hw)) ks .notes in
+    let calm = undisturbed v w o hw (AtLeast (next u)) ks x accepted quiet in
+    let d = fetched-on v w o (callsOf ks) u (x .good .bytes) hu su accepted calm (ap (λ (h : Hearing). h .closed) (sym heard) ∙ closed) in
+    let c : keptIn u (hearingOf (reportBegun v w o) (callsOf ks) .notes) ≡ keptAt u notes =
+    ap (λ (h : Hearing). keptIn u (h .notes)) (sym heard) ∙ sym (kept-is u notes) in
+    subst (λ (k : Copy). (k .fine ≡ true) × WentOn (v .table) u (k .table)) c d
+
+pub fetched-on-at : FetchedOnAt
+fetched-on-at s t before w o hw ks u hs ht hu su =
+    subst (GoesOn w o hw ks u) (sym (reached s t hs ht before))
+    (on-image (historyOf (newWorld t) before) w o hw ks u (reached-fit s t hs ht before) hu su)
 
 pub carried-over-copy-at : CarriedOverCopyAt
 unfolding carryAt

@@ -3,21 +3,22 @@
 use mathlib.Core.Path.{_≡_, refl, sym, ap, _∙_, subst}
 use mathlib.Core.Bool.{Bool, true, false}
 use mathlib.Core.List.{List, [], _∷_, _++_, map, append-nil}
-use Prim.Native.Nat.{ℕ, zero, suc, _+_, _-_, _%_, _≤_, _<_}
+use Prim.Native.Nat.{ℕ, zero, suc, _+_, _-_, _%_, _<_}
 use native.Mathlib.Omega.{arith}
 use borrow.Author.Tests.{eq-eqb}
 use lib.Dec.{eqb}
 use lib.ListN.{length, drop, length-append, length-drop}
 use lib.Seq.{drop-drop, drop-append-le, append-snoc}
-use Rattle.octets.specs.Choice.{both, either, pick}
+use Rattle.octets.specs.Choice.{either, pick}
 use Rattle.octets.specs.Parts.{Bytes}
+use Rattle.octets.proofs.Tests.{both-reads}
 use Rattle.record.specs.Fields.{sequenceOf}
 use Rattle.record.specs.declared.kinds.Record.{Record}
 use Rattle.record.specs.declared.kinds.Reading.{Reading}
 use Rattle.record.specs.declared.kinds.Reading.the-variants.{Is}
 use Rattle.record_write.specs.Layout.{recordOf}
-use Rattle.record_read.specs.Reading.{readOf, wellFormedB}
-use Rattle.table.specs.Table.{capacity, count, next, held, after, soundB, rowB, bytesIn, recordIn}
+use Rattle.record_read.specs.Reading.{readOf}
+use Rattle.table.specs.Table.{capacity, count, next, held, after, soundB, slotB, rowB, bytesIn, recordIn}
 use Rattle.table.proofs.RowLaws.{Slot, over-row}
 use Rattle.table_write.specs.Append.{newest}
 use Rattle.keep.specs.Keep.{Keeping, keeping, readKept, keepOf, keepingNumber}
@@ -60,6 +61,11 @@ pub record Holds (n : ℕ) (u : List ℕ) (l : List Record) (s : ℕ) : Type 0 w
   pub held : held u ≡ newest n l
   pub ready : either (eqb (count u) 0) (eqb s (next u)) ≡ true
 
+-- where its next number is s, however many are held
+pub ready-for : (b : Bool) (s m : ℕ) → s ≡ m → either b (eqb s m) ≡ true
+ready-for true s m e = refl
+ready-for false s m e = eq-eqb s m e
+
 -- one record more
 module _ (n : ℕ) (u x : List ℕ) (l : List Record) (s : ℕ) (h : Holds n u l s) (a : Slot x s) (hb : Bytes (bytesIn x)) where
   abbrev r : Record
@@ -84,17 +90,27 @@ module _ (n : ℕ) (u x : List ℕ) (l : List Record) (s : ℕ) (h : Holds n u l
         bytes = k .bytes;
         capacity = k .capacity ∙ h .capacity;
         held = k .held ∙ rw (h .capacity, h .held) (newest-more n l (recordOf (bytesIn x)));
-        ready = ap (either (eqb (count kept-in) 0)) (eq-eqb (after s) (next kept-in) (sym (k .next ∙ ap after follows))) ∙ either-true (eqb (count kept-in) 0);
+        ready = ready-for (eqb (count kept-in) 0) (after s) (next kept-in) (sym (k .next ∙ ap after follows));
       }
-    where
-      either-true : (b : Bool) → either b true ≡ true
-      either-true true = refl
-      either-true false = refl
 
 -- slots whose records are bytes
 pub data EachBytes : List (List ℕ) → Type 0 where
   none : EachBytes []
   more : {x : List ℕ} {l : List (List ℕ)} → Bytes (bytesIn x) → EachBytes l → EachBytes (x ∷ l)
+
+pub bytes-later : (k : ℕ) (l : List (List ℕ)) → EachBytes l → EachBytes (drop k l)
+bytes-later zero l h = h
+bytes-later (suc k) [] h = h
+bytes-later (suc k) (x ∷ l) (more b h) = bytes-later k l h
+
+-- the rest of a row is a row
+pub row-later : (k : ℕ) (l : List (List ℕ)) (s : ℕ) → s < 65536 → rowB l s ≡ true → rowB (drop k l) ((s + k) % 65536) ≡ true
+unfolding rowB
+row-later zero l s small h = let e : (s + 0) % 65536 ≡ s = omega arith in ap (rowB l) e ∙ h
+row-later (suc k) [] s small h = refl
+row-later (suc k) (x ∷ l) s small h =
+    let e : (s + suc k) % 65536 ≡ (after s + k) % 65536 = omega arith in
+    ap (rowB (drop k l)) e ∙ row-later k l (after s) (omega arith) (both-reads (slotB x s) (rowB l (after s)) h .1)
 
 -- every record was kept, and the copy holds them
 pub record Done (n : ℕ) (c : Copy) (l : List Record) (s : ℕ) : Type 0 where

@@ -8,7 +8,7 @@ use lib.IntN.{ℤ, pos, negsuc}
 use lib.ListN.{length, replicate}
 use Rattle.octets.specs.Choice.{both, pick}
 use Rattle.octets.specs.Parts.{part, Bytes}
-use Rattle.filter.specs.declared.filter.Filter.the-variants.{All}
+use Rattle.filter.specs.declared.filter.Filter.the-variants.{All, AtLeast}
 use Rattle.table.specs.Table.{next, slotsIn, sizeB, soundB}
 use Rattle.carry.specs.Stamp.{laterOf}
 use Rattle.state_bytes.specs.State.{stateBytes}
@@ -18,7 +18,7 @@ use Rattle.tablet_bytes.specs.Calls.{joinAt, KeptBytes, keepAt, carryAt}
 use Rattle.theorems_bytes.specs.World.{ByteWorld, ByteCall, racpWrite, stepAt, runAt, EntryCall, historyAt, startedAt}
 use Rattle.theorems_bytes.specs.Reports.{hearingAt, AcceptedAt, allQuietAt}
 use Rattle.theorems_bytes.specs.Stamps.{loggedAt, baseRead, numberRead, carriedAt, CarriesAt}
-use Rattle.theorems_copies.specs.Copies.{Copy, copy, CopyOf}
+use Rattle.theorems_copies.specs.Copies.{Copy, copy, CopyOf, WentOn}
 
 -- the result 0
 abbrev pub zeroB : ℤ → Bool
@@ -37,9 +37,12 @@ unfoldable pub keepAllAt : Copy → List ℕ → List (List ℕ) → Copy
 keepAllAt c j [] = c
 keepAllAt c j (n ∷ ns) = keepAllAt (keepHeardAt c (joinAt j n .joining) (joinAt j n .result)) (joinAt j n .joining) ns
 
--- a copy in the buffer u, which `dts_start` makes a new table of, from a joining state of zeros
+-- a report's notifications, kept in the table u, from a joining state of zeros; a copy in the buffer u, which `dts_start` makes a new table of
+abbrev pub keptAt : List ℕ → List (List ℕ) → Copy
+keptAt u notes = keepAllAt (copy u true) (replicate joiningBytes 0) notes
+
 abbrev pub copyAt : List ℕ → List ℕ → List (List ℕ) → Copy
-copyAt z u notes = keepAllAt (copy (startAt z u .table) true) (replicate joiningBytes 0) notes
+copyAt z u notes = keptAt (startAt z u .table) notes
 
 -- At b a report of all records is asked for and accepted, and heard among calls that end no report, up to the closing response.
 pub record Fetched (w o : List ℕ) (hw : Bytes w) (ks : List ByteCall) (b : ByteWorld) : Type 0 where
@@ -54,6 +57,14 @@ FetchedCopyAt = (s t : List ℕ) (before : List EntryCall) (w o : List ℕ) (hw 
     → let b = historyAt (startedAt s t) before in
     Fetched w o hw ks b
     → let c = copyAt z u (hearingAt (stepAt b (racpWrite w o hw)) ks .notes) in (c .fine ≡ true) × CopyOf (slotsIn (length u)) (b .table) (c .table)
+
+-- Theorem Fetched on, over bytes, from start: any entry points, then a report of the copy's next number and all newer.
+abbrev pub FetchedOnAt : Type 0
+FetchedOnAt = (s t : List ℕ) (before : List EntryCall) (w o : List ℕ) (hw : Bytes w) (ks : List ByteCall) (u : List ℕ)
+    → length s ≡ stateBytes → sizeB (length t) ≡ true → Bytes u → soundB u ≡ true
+    → let b = historyAt (startedAt s t) before in
+    AcceptedAt b w o hw (AtLeast (next u)) → allQuietAt (stepAt b (racpWrite w o hw)) ks ≡ true → hearingAt (stepAt b (racpWrite w o hw)) ks .closed ≡ true
+    → let c = keptAt u (hearingAt (stepAt b (racpWrite w o hw)) ks .notes) in (c .fine ≡ true) × WentOn (b .table) u (c .table)
 
 -- `dts_carry` over a copy leaves the result and the stamp that it leaves over the reader's own table, wherever the copy has a slot for each later record.
 abbrev pub CarriedOverCopyAt : Type 0
