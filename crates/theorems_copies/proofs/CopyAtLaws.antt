@@ -11,6 +11,7 @@ use lib.IntN.{ℤ}
 use lib.ListN.{length, length-drop}
 use Rattle.octets.specs.Choice.{both}
 use Rattle.octets.specs.Parts.{Bytes}
+use Rattle.filter.specs.declared.filter.Filter.{Filter}
 use Rattle.filter.specs.declared.filter.Filter.the-variants.{All, AtLeast}
 use Rattle.record.specs.Fields.{mostBytes}
 use Rattle.table.specs.Table.{next, slotsIn, sizeB, soundB}
@@ -33,15 +34,15 @@ use Rattle.tablet_bytes.specs.Calls.{JoinedBytes, joinResult, keepAt, carrying,
 use Rattle.theorems_calls.proofs.JoinedLaws.{keeps-ranges}
 use Rattle.theorems_entry.proofs.PromiseLaws.{composes}
 use Rattle.theorems_reports.specs.World.{World, newWorld, runOf}
-use Rattle.theorems_reports.specs.Hearing.{Hearing, hearingOf}
-use Rattle.theorems_reports.specs.Reports.{reportBegun}
+use Rattle.theorems_reports.specs.Hearing.{Hearing, hearingOf, undisturbedB}
+use Rattle.theorems_reports.specs.Reports.{Accepted, reportBegun}
 use Rattle.theorems_bytes.specs.World.{ByteWorld, ByteCall, racpWrite, stepAt, runAt, historyAt, startedAt, callsOf, imageIn, historyOf}
 use Rattle.theorems_bytes.specs.Reports.{hearingAt, AcceptedAt, allQuietAt}
 use Rattle.theorems_bytes.specs.Stamps.{baseRead, numberRead}
 use Rattle.theorems_bytes.proofs.ImageLaws.{Fit, run-is, run-fit, reached, reached-fit}
 use Rattle.theorems_bytes.proofs.ReportLaws.{accepted-is, heard-is, undisturbed}
 use Rattle.theorems_bytes.proofs.StampLaws.{carried-stamp-at}
-use Rattle.theorems_copies.specs.Copies.{Copy, copy, keepHeard, keepAll, keptIn, copyOf, CopyOf, WentOn}
+use Rattle.theorems_copies.specs.Copies.{Copy, copy, keepHeard, keepAll, keptIn, CopyOf, WentOn}
 use Rattle.theorems_copies.specs.CopiesAt.{zeroB, keepHeardAt, keepAllAt, keptAt, copyAt, Fetched, FetchedCopyAt, FetchedOnAt, CarriedOverCopyAt, CarriedCopyAt}
 use Rattle.theorems_copies.proofs.CopyLaws.{fetched-copy, fetched-on, carried-over-copy}
 
@@ -77,8 +78,18 @@ kept-is : (u : List ℕ) (notes : List (List ℕ)) → keptAt u notes ≡ keptIn
 kept-is u notes =
     ap (λ (j : List ℕ). keepAllAt (copy u true) j notes) (sym (joining-images .zeros)) ∙ keeps-all notes (copy u true) emptyJoining empty-bytes
 
-copy-is : (z u : List ℕ) (notes : List (List ℕ)) → length z ≡ stateBytes → sizeB (length u) ≡ true → copyAt z u notes ≡ copyOf (slotsIn (length u)) notes
-copy-is z u notes hz hu = ap (λ (t : List ℕ). keptAt t notes) (start-table z u hz hu) ∙ kept-is (fresh (slotsIn (length u))) notes
+-- A report heard at the image of a world and kept in the table u: G, what is promised of that, holds where it does by value.
+kept-heard : (v : World) (w o : List ℕ) (hw : Bytes w) (f : Filter) (ks : List ByteCall) (u : List ℕ) (G : Copy → Type 0) → Fit v
+    → AcceptedAt (imageIn v) w o hw f → allQuietAt (stepAt (imageIn v) (racpWrite w o hw)) ks ≡ true
+    → hearingAt (stepAt (imageIn v) (racpWrite w o hw)) ks .closed ≡ true
+    → (Accepted v w o f → undisturbedB (reportBegun v w o) (callsOf ks) ≡ true → hearingOf (reportBegun v w o) (callsOf ks) .closed ≡ true
+    → G (keptIn u (hearingOf (reportBegun v w o) (callsOf ks) .notes)))
+    → G (keptAt u (hearingAt (stepAt (imageIn v) (racpWrite w o hw)) ks .notes))
+kept-heard v w o hw f ks u G x a quiet closed by-value =
+    let accepted = accepted-is v w o hw f x a in
+    let heard = heard-is v w o hw ks x in
+    subst G (ap (λ (h : Hearing). keptIn u (h .notes)) (sym heard) ∙ sym (kept-is u _))
+    (by-value accepted (undisturbed v w o hw f ks x accepted quiet) (ap (λ (h : Hearing). h .closed) (sym heard) ∙ closed))
 
 -- what is fetched at b
 abbrev Fetches : (w o : List ℕ) → Bytes w → List ByteCall → List ℕ → List ℕ → ByteWorld → Type 0
@@ -88,16 +99,12 @@ Fetches w o hw ks z u b = Fetched w o hw ks b
 at-image : (v : World) (w o : List ℕ) (hw : Bytes w) (ks : List ByteCall) (z u : List ℕ) → Fit v → length z ≡ stateBytes → sizeB (length u) ≡ true
     → Fetches w o hw ks z u (imageIn v)
 at-image v w o hw ks z u x hz hu f =
-    let accepted = accepted-is v w o hw All x (f .accepted) in
-    let heard = heard-is v w o hw ks x in
     let n = size-reads (length u) hu in
     let notes : List (List ℕ) = hearingAt (stepAt (imageIn v) (racpWrite w o hw)) ks .notes in
-    let calm = undisturbed v w o hw All ks x accepted (f .quiet) in
-    let d = fetched-copy v w o (callsOf ks) (slotsIn (length u)) (x .good .bytes) (n .some) (n .few) accepted calm
-    (ap (λ (h : Hearing). h .closed) (sym heard) ∙ f .closed) in
-    let c : copyOf (slotsIn (length u)) (hearingOf (reportBegun v w o) (callsOf ks) .notes) ≡ copyAt z u notes =
-    ap (λ (h : Hearing). copyOf (slotsIn (length u)) (h .notes)) (sym heard) ∙ sym (copy-is z u notes hz hu) in
-    subst (λ (k : Copy). (k .fine ≡ true) × CopyOf (slotsIn (length u)) (v .table) (k .table)) c d
+    let G : Copy → Type 0 = λ k. (k .fine ≡ true) × CopyOf (slotsIn (length u)) (v .table) (k .table) in
+    subst (λ (t : List ℕ). G (keptAt t notes)) (sym (start-table z u hz hu))
+    (kept-heard v w o hw All ks (fresh (slotsIn (length u))) G x (f .accepted) (f .quiet) (f .closed)
+    (fetched-copy v w o (callsOf ks) (slotsIn (length u)) (x .good .bytes) (n .some) (n .few)))
 
 pub fetched-copy-at : FetchedCopyAt
 fetched-copy-at s t before w o hw ks z u hs ht hz hu =
@@ -111,15 +118,9 @@ GoesOn w o hw ks u b = AcceptedAt b w o hw (AtLeast (next u)) → allQuietAt (st
     → let c = keptAt u (hearingAt (stepAt b (racpWrite w o hw)) ks .notes) in (c .fine ≡ true) × WentOn (b .table) u (c .table)
 
 on-image : (v : World) (w o : List ℕ) (hw : Bytes w) (ks : List ByteCall) (u : List ℕ) → Fit v → Bytes u → soundB u ≡ true → GoesOn w o hw ks u (imageIn v)
-on-image v w o hw ks u x hu su asked quiet closed =
-    let accepted = accepted-is v w o hw (AtLeast (next u)) x asked in
-    let heard = heard-is v w o hw ks x in
-    let notes : List (List ℕ) = hearingAt (stepAt (imageIn v) (racpWrite w o hw)) ks .notes in
-    let calm = undisturbed v w o hw (AtLeast (next u)) ks x accepted quiet in
-    let d = fetched-on v w o (callsOf ks) u (x .good .bytes) hu su accepted calm (ap (λ (h : Hearing). h .closed) (sym heard) ∙ closed) in
-    let c : keptIn u (hearingOf (reportBegun v w o) (callsOf ks) .notes) ≡ keptAt u notes =
-    ap (λ (h : Hearing). keptIn u (h .notes)) (sym heard) ∙ sym (kept-is u notes) in
-    subst (λ (k : Copy). (k .fine ≡ true) × WentOn (v .table) u (k .table)) c d
+on-image v w o hw ks u x hu su a quiet closed =
+    kept-heard v w o hw (AtLeast (next u)) ks u (λ k. (k .fine ≡ true) × WentOn (v .table) u (k .table)) x a quiet closed
+    (fetched-on v w o (callsOf ks) u (x .good .bytes) hu su)
 
 pub fetched-on-at : FetchedOnAt
 fetched-on-at s t before w o hw ks u hs ht hu su =

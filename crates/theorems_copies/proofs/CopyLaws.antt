@@ -142,7 +142,6 @@ fetched-copy v w o ks n hb h1 h2 a calm closed =
     ap (λ (g : Got). g .records) joined ∙ ap (map Is) (all-match (count t) 0 (held t)) in
     let sd = rows-passed (v .clock) t w o (answered-passed (v .clock) t w o (a .done)) .0 .sound in
     let row = sound-reads t sd in
-    let s = starts n h1 h2 in
     let begin : Holds n (fresh n) [] (first t) = new-copy n (first t) h1 h2 in
     let d = keeps-row n (ring t) (first t) (row .row) (first-small t) (each-bytes (count t) t (oldest t) hb) (fresh n) [] begin in
     let c : copyOf n notes ≡ keepReadings (copy (fresh n) true) (map Is (held t)) =
