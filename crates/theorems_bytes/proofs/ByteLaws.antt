@@ -3,13 +3,13 @@
 use mathlib.Core.Path.{_≡_, refl}
 use mathlib.Core.Bool.{Bool, true, false}
 use mathlib.Core.List.{List, [], _∷_}
-use Prim.Native.Nat.{ℕ, zero, suc, _<_}
+use Prim.Native.Nat.{ℕ, _<_}
 use native.Mathlib.Omega.{arith}
 use borrow.Author.Tests.{leb-true, eqb-true, ltb-true}
 use lib.Dec.{ltb, eqb}
 use lib.ListN.{drop, length}
 use Rattle.octets.specs.Choice.{either, pick}
-use Rattle.octets.specs.Numbers.{at, bytes2, bytes4}
+use Rattle.octets.specs.Numbers.{bytes2, bytes4}
 use Rattle.octets.specs.Parts.{Bytes}
 use Rattle.octets.proofs.NumberLaws.{bytes-two, bytes-four}
 use Rattle.octets.proofs.PartLaws.{bytes-append}
@@ -48,18 +48,8 @@ use Rattle.state_bytes.specs.State.{switchesOf, boundsOf, unsentOf, fieldsOf, f
 use Rattle.theorems_reports.specs.World.{World, Call, seconds, switches, disconnect, fault, timeUpdate, recordAccess, notify, stepBy, stepOf}
 use Rattle.theorems_reports.specs.Reach.{Good}
 use Rattle.theorems_reports.proofs.ReachLaws.{Turned, same, turns, access-turned, notify-turned}
+use Rattle.theorems_stamps.proofs.WriteLaws.{bytes-cons, bytes-nil}
 use Rattle.theorems_bytes.specs.Fitting.{ByteFields}
-
--- one more byte in front
-byte-more : (x : ℕ) (l : List ℕ) → x < 256 → Bytes l → Bytes (x ∷ l)
-byte-more x l h k = record { byte = go }
-  where
-    go : (i : ℕ) → at (x ∷ l) i < 256
-    go zero = h
-    go (suc i) = k .byte i
-
-no-bytes : Bytes []
-no-bytes = record { byte = λ i. omega arith }
 
 -- "DST offset: 0, 2, 4, 8, or 255", "Source: 0 to 7"
 dst-byte : (d : ℕ) → dstB d ≡ true → d < 256
@@ -129,23 +119,23 @@ left-sent t f (From n s) h =
 running-bytes : (t : List ℕ) (r : Running) → runningB r ≡ true → rows.runningWholeB t r ≡ true → Bytes (fieldBytes (fieldsOf r))
 unfolding fieldBytes fieldsOf rows.runningWholeB
 running-bytes t Idle h k =
-    byte-more 0 _ (omega arith)
-    (byte-more 0 _ (omega arith)
+    bytes-cons 0 _ (omega arith)
+    (bytes-cons 0 _ (omega arith)
     (bytes-append (bytes2 0) _ (bytes-two 0)
     (bytes-append (bytes2 0) _ (bytes-two 0)
-    (byte-more 0 _ (omega arith)
-    (byte-more 0 _ (omega arith)
-    (bytes-append (bytes2 0) _ (bytes-two 0) (byte-more 0 [] (omega arith) no-bytes)))))))
+    (bytes-cons 0 _ (omega arith)
+    (bytes-cons 0 _ (omega arith)
+    (bytes-append (bytes2 0) _ (bytes-two 0) (bytes-cons 0 [] (omega arith) bytes-nil)))))))
 running-bytes t (Reporting r) h k =
     let x = running-reads r h in
-    byte-more (r .opcode) _ (opcode-byte (r .opcode) (x .opcode))
-    (byte-more (boundsOf (r .filter) .operator) _ (operator-byte (r .filter))
+    bytes-cons (r .opcode) _ (opcode-byte (r .opcode) (x .opcode))
+    (bytes-cons (boundsOf (r .filter) .operator) _ (operator-byte (r .filter))
     (bytes-append (bytes2 (boundsOf (r .filter) .minimum)) _ (bytes-two _)
     (bytes-append (bytes2 (boundsOf (r .filter) .maximum)) _ (bytes-two _)
-    (byte-more (r .counter) _ (omega arith)
-    (byte-more (unsentOf (r .left) .left) _ (left-byte (r .left))
+    (bytes-cons (r .counter) _ (omega arith)
+    (bytes-cons (unsentOf (r .left) .left) _ (left-byte (r .left))
     (bytes-append (bytes2 (unsentOf (r .left) .next)) _ (bytes-two _)
-    (byte-more (unsentOf (r .left) .sent) [] (left-sent t (r .filter) (r .left) k) no-bytes)))))))
+    (bytes-cons (unsentOf (r .left) .sent) [] (left-sent t (r .filter) (r .left) k) bytes-nil)))))))
 
 pub image-bytes : (v : World) → Good v → ByteFields (v .clock) → Bytes (imageOf (v .clock))
 unfolding imageOf
@@ -154,14 +144,14 @@ image-bytes v g b =
     let x = clock-reads c (g .clock) in
     let zeros : Bytes (0 ∷ 0 ∷ 0 ∷ 0 ∷ []) = bytes-four 0 in
     bytes-append (bytes4 (c .time .base)) _ (bytes-four _)
-    (byte-more (c .time .zone) _ (b .zone)
-    (byte-more (c .time .dst) _ (dst-byte _ (x .time .dst))
-    (byte-more (c .time .source) _ (source-byte _ (x .time .source))
-    (byte-more (c .time .accuracy) _ (b .accuracy)
+    (bytes-cons (c .time .zone) _ (b .zone)
+    (bytes-cons (c .time .dst) _ (dst-byte _ (x .time .dst))
+    (bytes-cons (c .time .source) _ (source-byte _ (x .time .source))
+    (bytes-cons (c .time .accuracy) _ (b .accuracy)
     (bytes-append (bytes2 (c .time .status)) _ (bytes-two _)
     (bytes-append (bytes2 (c .time .faults)) _ (bytes-two _)
     (bytes-append (bytes4 (c .time .aligned)) _ (bytes-four _)
-    (byte-more (switchesOf (c .switches .dtcp) (c .switches .racp) (c .switches .log)) _ (switches-byte _ _ _)
+    (bytes-cons (switchesOf (c .switches .dtcp) (c .switches .racp) (c .switches .log)) _ (switches-byte _ _ _)
     (bytes-append (fieldBytes (fieldsOf (c .running))) _ (running-bytes (v .table) (c .running) (x .running) (g .running)) zeros)))))))))
 
 -- zone and accuracy come from writes, which are bytes

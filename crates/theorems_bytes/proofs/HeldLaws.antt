@@ -19,6 +19,7 @@ use Rattle.table.specs.Table.{count, oldest, nextSlot, after, first, slot, byte
 use Rattle.table.proofs.HeadLaws.{sound-reads}
 use Rattle.table.proofs.RowLaws.{slot-reads}
 use Rattle.table_write.specs.Append.{newest}
+use Rattle.table_look.proofs.LookLaws.{drop-map}
 use Rattle.theorems_bytes.specs.Stamps.{heldIn, sameRowsB}
 
 -- a held slot's record, written, is the bytes in it
@@ -47,14 +48,9 @@ held-written t hb sd = slots-written t hb (count t) (oldest t) (first t) (rw rin
     ring-is : ring t ≡ slots (count t) t (oldest t)
     ring-is = refl
 
-pub map-drop : {A B : Type 0} (f : A → B) (n : ℕ) (l : List A) → map f (drop n l) ≡ drop n (map f l)
-map-drop f zero l = refl
-map-drop f (suc n) [] = refl
-map-drop f (suc n) (r ∷ l) = map-drop f n l
-
 -- the newest of a row of records, as bytes
 pub newest-written : (n : ℕ) (l : List Record) → map bytesOf (newest n l) ≡ newest n (map bytesOf l)
-newest-written n l = map-drop bytesOf (length l - n) l ∙ ap (λ (k : ℕ). drop (k - n) (map bytesOf l)) (sym (length-map l bytesOf))
+newest-written n l = sym (drop-map bytesOf (length l - n) l) ∙ ap (λ (k : ℕ). drop (k - n) (map bytesOf l)) (sym (length-map l bytesOf))
 
 pub same-rows : (a b : List (List ℕ)) → sameRowsB a b ≡ true → a ≡ b
 unfolding sameRowsB

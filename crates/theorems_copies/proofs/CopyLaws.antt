@@ -28,6 +28,7 @@ use Rattle.table_write.proofs.StartLaws.{starts}
 use Rattle.table_write.proofs.HistoryLaws.{length-held}
 use Rattle.table_write.proofs.SoundLaws.{length-ring}
 use Rattle.table_look.specs.Matching.{matchingFrom, matching}
+use Rattle.table_look.proofs.LookLaws.{drop-map}
 use Rattle.table_look.proofs.NumberLaws.{by-number}
 use Rattle.joining.specs.Joining.{emptyJoining, joinOf, joinedIn}
 use Rattle.joining.specs.declared.joining.Answer.{Answer}
@@ -42,7 +43,6 @@ use Rattle.theorems_reports.proofs.AccessLaws.{rows-passed, answered-passed}
 use Rattle.theorems_reports.proofs.BeginLaws.{accepted-some}
 use Rattle.theorems_reports.proofs.HeldLaws.{bytes-slot}
 use Rattle.theorems_reports.proofs.ReportLaws.{heard-report}
-use Rattle.theorems_bytes.proofs.HeldLaws.{map-drop}
 use Rattle.theorems_bytes.proofs.NumberLaws.{least-held}
 use Rattle.theorems_copies.specs.Copies.{Copy, copy, afterKeeping, keepHeard, keepAll, keptIn, copyOf, CopyOf, FetchedCopy, WentOn, FetchedOn, CarriedOverCopy}
 use Rattle.theorems_copies.proofs.KeepLaws.{Holds, EachBytes, none, more, keepRead, keepReadings, by-reading, ready-for, bytes-later, row-later, keeps-row}
@@ -195,7 +195,7 @@ module _ (v : World) (w o u : List ℕ) (hb : Bytes (v .table)) (hu : Bytes u) (
 
   new-held : map recordIn new ≡ drop (ageOf t (next u)) (held t)
   unfolding held
-  new-held = map-drop recordIn (ageOf t (next u)) (ring t)
+  new-held = sym (drop-map recordIn (ageOf t (next u)) (ring t))
 
   new-bytes : EachBytes new
   unfolding ring

@@ -1,4 +1,4 @@
--- The writes of the cases are bytes.
+-- One more byte in front of bytes; so the writes of the cases are bytes.
 -- Assumes nothing.
 use mathlib.Core.List.{List, [], _∷_}
 use Prim.Native.Nat.{ℕ, zero, suc, _<_}
@@ -9,14 +9,14 @@ use Rattle.octets.proofs.NumberLaws.{bytes-four}
 use Rattle.octets.proofs.PartLaws.{bytes-append}
 use Rattle.theorems_stamps.specs.Cases.{Writable}
 
-bytes-cons : (x : ℕ) (l : List ℕ) → x < 256 → Bytes l → Bytes (x ∷ l)
+pub bytes-cons : (x : ℕ) (l : List ℕ) → x < 256 → Bytes l → Bytes (x ∷ l)
 bytes-cons x l h k = record { byte = go }
   where
     go : (i : ℕ) → at (x ∷ l) i < 256
     go zero = h
     go (suc i) = k .byte i
 
-bytes-nil : Bytes []
+pub bytes-nil : Bytes []
 bytes-nil = record { byte = λ i. omega arith }
 
 pub writable : Writable
