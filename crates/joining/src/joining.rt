@@ -1,15 +1,18 @@
 // Joining the segments of a report into records (document 01, "RACP and notifications"): the state, the reasons for
 // refusing a segment, what a segment that is taken leaves, and the call.
 use octets::choice::both;
+use octets::parts::clear;
 use octets::parts::put;
 use record::kinds::MOST_BYTES;
 ghost use mathlib.Core.Path.{_≡_};
-ghost use Prim.Native.Nat.{_+_, _/_, _%_, _≤_};
+ghost use mathlib.Core.List.{List};
+ghost use Prim.Native.Nat.{ℕ, _+_, _/_, _%_, _≤_};
 ghost use lib.Dec.{leb, eqb};
 ghost use lib.ListN.{length};
 ghost use Rattle.octets.specs.Choice.{pick, both as Choice·both};
 ghost use Rattle.octets.specs.Parts.{over};
-ghost use Rattle.joining.specs.Joining.{emptyJoining, rangesB, body, placedB, followsB, standing as Joining·standing, takesB, ground as Joining·ground, Takes, takenOf, joinOf, joiningNumber};
+ghost use Rattle.record.specs.Fields.{mostBytes};
+ghost use Rattle.joining.specs.Joining.{joining, emptyJoining, rangesB, body, placedB, followsB, standing as Joining·standing, lenAfter, takesB, ground, Takes, takenOf, joinOf, joiningNumber};
 
 // No segment yet; a whole record stands there; inside a record.
 pub const EMPTY: u8 = 0;
@@ -65,90 +68,94 @@ pub fn restart() -> Joining
 }
 
 // Counter and length by the phase: both 0 while no segment came (EMPTY), else a length of at least 1.
-fn begun_ok(j: Joining) -> bool
-    ensures { λ r. ⌜ r ≡ pick (eqb (j .phase) 0) (Choice·both (eqb (j .counter) 0) (eqb (j .len) 0)) (leb 1 (j .len)) ⌝ }
+fn begun_ok(phase: u8, counter: u8, len: u8) -> bool
+    ensures { λ r. ⌜ r ≡ pick (eqb phase 0) (Choice·both (eqb counter 0) (eqb len 0)) (leb 1 len) ⌝ }
 {
-    if j.phase > EMPTY {
-        return 1 <= j.len;
+    if phase > EMPTY {
+        return 1 <= len;
     }
-    both(j.counter == 0, j.len == 0)
+    both(counter == 0, len == 0)
 }
 
-fn ranges_ok(j: Joining) -> bool
-    ensures { λ r. ⌜ r ≡ rangesB j ⌝ }
+fn ranges_ok(phase: u8, counter: u8, len: u8) -> bool
+    ensures { λ r. ⌜ ((b : List ℕ) → r ≡ rangesB (joining phase counter len b)) ⌝ }
 {
-    let numbers = both(j.phase <= INSIDE, j.counter <= LAST_COUNTER);
-    both(numbers, both(j.len <= MOST_BYTES, begun_ok(j)))
+    let numbers = both(phase <= INSIDE, counter <= LAST_COUNTER);
+    let length = both(len <= MOST_BYTES, begun_ok(phase, counter, len));
+    both(numbers, length)
 }
 
 // "A first bit inside a record, a missing first bit at its start."
-fn placed(j: Joining, note: &[u8]) -> bool
+fn placed(phase: u8, note: &[u8]) -> bool
     requires { ⌜ 2 ≤ length (now note) ⌝ }
-    ensures { λ r. ⌜ r ≡ placedB j (now (note .entry)) ⌝ }
+    ensures { λ r. ⌜ ((c l : ℕ) (b : List ℕ) → r ≡ placedB (joining phase c l b) (now (note .entry))) ⌝ }
 {
-    if j.phase == INSIDE {
+    if phase == INSIDE {
         return note[0] % 2 == 0;
     }
     note[0] % 2 == 1
 }
 
 // "A counter that doesn't follow"; after a restart any counter is taken.
-fn follows(j: Joining, note: &[u8]) -> bool
+fn follows(phase: u8, counter: u8, note: &[u8]) -> bool
     requires { ⌜ 2 ≤ length (now note) ⌝ }
-    ensures { λ r. ⌜ r ≡ followsB j (now (note .entry)) ⌝ }
+    ensures { λ r. ⌜ ((l : ℕ) (b : List ℕ) → r ≡ followsB (joining phase counter l b) (now (note .entry))) ⌝ }
 {
-    if j.phase == EMPTY {
+    if phase == EMPTY {
         return true;
     }
-    note[0] / 4 == j.counter
+    note[0] / 4 == counter
 }
 
 // How many bytes of the record stand there already.
-fn standing(j: Joining) -> usize
-    ensures { λ r. ⌜ r ≡ Joining·standing j ⌝ }
+pub fn standing(phase: u8, len: u8) -> usize
+    ensures { λ r. ⌜ ((c : ℕ) (b : List ℕ) → r ≡ Joining·standing (joining phase c len b)) ⌝ }
 {
-    if j.phase == INSIDE {
-        return j.len as usize;
+    if phase == INSIDE {
+        return len as usize;
     }
     0
 }
 
 // Is the notification taken? "Joining refuses an empty notification, an empty body, .. over 45 bytes"; the
-// tests between stand above, each with the paper's words for it.
-fn takes(j: Joining, note: &[u8]) -> bool
-    ensures { λ r. ⌜ r ≡ takesB j (now (note .entry)) ⌝ }
+// tests between stand above, each with the paper's words for it. No test looks at the bytes that stand there,
+// so the three numbers are enough, wherever the bytes are kept.
+pub fn takes(phase: u8, counter: u8, len: u8, note: &[u8]) -> bool
+    ensures { λ r. ⌜ ((b : List ℕ) → r ≡ takesB (joining phase counter len b) (now (note .entry))) ⌝ }
 {
     if note.len() < 2 {
         return false;
     }
-    if !both(ranges_ok(j), both(placed(j, note), follows(j, note))) {
+    let numbers = ranges_ok(phase, counter, len);
+    let segment = both(placed(phase, note), follows(phase, counter, note));
+    if !both(numbers, segment) {
         return false;
     }
-    note.len() - 1 <= MOST_BYTES as usize - standing(j)
+    note.len() - 1 <= MOST_BYTES as usize - standing(phase, len)
 }
 
 // A first segment clears the bytes, a later one keeps those it does not write.
-fn ground(j: Joining) -> [u8; MOST_BYTES as usize]
-    ensures { λ r. ⌜ r ≡ Joining·ground j ⌝ }
+fn begin(bytes: &mut [u8], phase: u8)
+    requires { ⌜ length (now bytes) ≡ mostBytes ⌝ }
+    ensures { λ _. ⌜ ((c l : ℕ) → now (bytes .exit) ≡ ground (joining phase c l (now (bytes .entry)))) ⌝ }
 {
-    if j.phase == INSIDE {
-        return j.bytes;
+    if phase == INSIDE {
+        return;
     }
-    [0u8; MOST_BYTES as usize]
+    clear(bytes);
 }
 
-fn with_body(j: Joining, note: &[u8]) -> [u8; MOST_BYTES as usize]
-    requires { ⌜ Takes j (now note) ⌝ }
-    ensures { λ r. ⌜ r ≡ over (Joining·ground j) (Joining·standing j) (body (now (note .entry))) ⌝ }
+// A notification's body laid over the record's bytes, after those that stand there already.
+pub fn lay_body(bytes: &mut [u8], phase: u8, len: u8, note: &[u8])
+    requires { ⌜ (length (now bytes) ≡ mostBytes) × ((1 ≤ length (now note)) × (lenAfter (joining phase 0 len (now bytes)) (now note) ≤ mostBytes)) ⌝ }
+    ensures { λ _. ⌜ ((c : ℕ) → let j = joining phase c len (now (bytes .entry)) in now (bytes .exit) ≡ over (ground j) (Joining·standing j) (body (now (note .entry)))) ⌝ }
 {
-    let mut bytes = ground(j);
-    let at = standing(j);
-    put(&mut bytes, at, &note[1..]);
-    bytes
+    begin(bytes, phase);
+    put(bytes, standing(phase, len), &note[1..]);
 }
 
 // "Rises by 1 per notification, 63 then 0."
-fn counter_after(header: u8) -> u8
+pub fn counter_after(header: u8) -> u8
     ensures { λ r. ⌜ r ≡ (header / 4 + 1) % 64 ⌝ }
 {
     (header / 4 + 1) % 64
@@ -159,9 +166,10 @@ fn taken(j: Joining, note: &[u8]) -> Joined
     requires { ⌜ Takes j (now note) ⌝ }
     ensures { λ r. ⌜ r ≡ takenOf j (now (note .entry)) ⌝ }
 {
-    let bytes = with_body(j, note);
+    let mut bytes = j.bytes;
+    lay_body(&mut bytes, j.phase, j.len, note);
     let counter = counter_after(note[0]);
-    let len = (standing(j) + (note.len() - 1)) as u8;
+    let len = (standing(j.phase, j.len) + (note.len() - 1)) as u8;
     if note[0] / 2 % 2 == 1 {
         return Joined {
             answer: Answer::Whole,
@@ -190,7 +198,7 @@ fn taken(j: Joining, note: &[u8]) -> Joined
 pub fn join(j: Joining, note: &[u8]) -> Joined
     ensures { λ r. ⌜ r ≡ joinOf j (now (note .entry)) ⌝ }
 {
-    if !takes(j, note) {
+    if !takes(j.phase, j.counter, j.len, note) {
         let fresh = restart();
         return Joined {
             answer: Answer::Refused,

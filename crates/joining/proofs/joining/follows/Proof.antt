@@ -8,14 +8,14 @@ use Rattle.joining.proofs.joining.follows.Tie as tie
 
 returns : tie.Need-returns
 unfolding followsB
-returns c = rw (eq-eqb _ _ (c .if1 .taken))
+returns c _ _ = rw (eq-eqb _ _ (c .if1 .taken))
 
 shared-slice-read-result : tie.Need-shared-slice-read-result
 shared-slice-read-result c = search needs
 
 returns-2 : tie.Need-returns-2
 unfolding followsB
-returns-2 c = rw (ne-eqb _ _ (c .before .before .if1 .left))
+returns-2 c _ _ = rw (ne-eqb _ _ (c .before .if1 .left))
 
 pub follows-spec : {M : Type 1} → statement M
 follows-spec = tie.close (tie.spec returns shared-slice-read-result returns-2)

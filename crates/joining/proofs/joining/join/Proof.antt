@@ -11,7 +11,7 @@ use Rattle.joining.proofs.joining.join.Statement.{statement}
 use Rattle.joining.proofs.joining.join.Tie as tie
 
 does : (c : tie.Else1) → takesB (c .before .before .before .args .j) (c .before .before .before .args .note .now) ≡ true
-does c = sym (c .before .takes .ensures) ∙ not-false _ (c .if1 .left)
+does c = sym (c .before .takes .ensures _) ∙ not-false _ (c .if1 .left)
 
 takes-requires : tie.Need-takes-requires
 takes-requires c κs = search needs
@@ -22,7 +22,7 @@ restart-requires c κs = search needs
 returns : tie.Need-returns
 returns c =
     ap (joined Refused) (c .restart .ensures)
-    ∙ sym (join-refused _ _ (sym (c .before .before .takes .ensures) ∙ not-true _ (c .before .if1 .taken)))
+    ∙ sym (join-refused _ _ (sym (c .before .before .takes .ensures _) ∙ not-true _ (c .before .if1 .taken)))
 
 taken-requires : tie.Need-taken-requires
 taken-requires c κs = takes-reads _ _ (does c)

@@ -11,14 +11,14 @@ shared-slice-read-result c = search needs
 
 returns : tie.Need-returns
 unfolding placedB
-returns c = rw (eq-eqb _ _ (c .before .if1 .taken))
+returns c _ _ _ = rw (eq-eqb _ _ (c .before .if1 .taken))
 
 shared-slice-read-result-2 : tie.Need-shared-slice-read-result-2
 shared-slice-read-result-2 c = search needs
 
 returns-2 : tie.Need-returns-2
 unfolding placedB
-returns-2 c = rw (ne-eqb _ _ (c .before .if1 .left))
+returns-2 c _ _ _ = rw (ne-eqb _ _ (c .before .if1 .left))
 
 pub placed-spec : {M : Type 1} → statement M
 placed-spec =

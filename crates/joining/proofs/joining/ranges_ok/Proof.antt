@@ -20,9 +20,9 @@ both-requires-3 c κs = search needs
 
 returns : tie.Need-returns
 unfolding rangesB
-returns c =
+returns c _ =
     let k = c .before in
-    c .both3 .ensures ∙ rw (k .both2 .ensures, k .before .begun-ok .ensures, k .before .before .before .both .ensures)
+    c .both3 .ensures ∙ rw (k .both2 .ensures, k .before .begun-ok .ensures, k .before .before .both .ensures)
 
 pub ranges-ok-spec : {M : Type 1} → statement M
 ranges-ok-spec =

@@ -2,20 +2,16 @@
 -- Assumes nothing.
 use borrow.Author.Tests.{eq-eqb, ne-eqb}
 use Rattle.joining.specs.Joining.{standing}
-use borrow.Author.Needs.{needs}
 use Rattle.joining.proofs.joining.standing.Statement.{statement}
 use Rattle.joining.proofs.joining.standing.Tie as tie
 
-cast-result : tie.Need-cast-result
-cast-result c = search needs
-
 returns : tie.Need-returns
 unfolding standing
-returns c = rw (eq-eqb _ _ (c .before .if1 .taken))
+returns c _ _ = rw (eq-eqb _ _ (c .if1 .taken))
 
 returns-2 : tie.Need-returns-2
 unfolding standing
-returns-2 c = rw (ne-eqb _ _ (c .if1 .left))
+returns-2 c _ _ = rw (ne-eqb _ _ (c .if1 .left))
 
 pub standing-spec : {M : Type 1} → statement M
-standing-spec = tie.close (tie.spec cast-result returns returns-2)
+standing-spec = tie.close (tie.spec returns returns-2)

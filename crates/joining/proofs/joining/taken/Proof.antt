@@ -3,7 +3,7 @@
 use mathlib.Core.Path.{_≡_}
 use Prim.Native.Nat.{_+_, _-_}
 use lib.ListN.{length, length-drop}
-use Rattle.joining.specs.Joining.{lenAfter}
+use Rattle.joining.specs.Joining.{standing, lenAfter}
 use Rattle.joining.proofs.JoiningLaws.{taken-whole, taken-more}
 use borrow.Author.Needs.{needs}
 use native.Mathlib.Omega.{arith}
@@ -11,11 +11,17 @@ use Rattle.joining.proofs.joining.taken.Statement.{statement}
 use Rattle.joining.proofs.joining.taken.Tie as tie
 
 len-is : (c : tie.After-standing)
-    → let a = c .before .before .before .before .before .args in c .standing .result + (length (a .note .now) - 1) ≡ lenAfter (a .j) (a .note .now)
-len-is c = omega (arith, c .standing .ensures, length-drop 1 (c .before .before .before .before .before .args .note .now))
+    → let a = c .before .before .before .before .before .before .before .before .args in c .standing .result + (length (a .note .now) - 1) ≡ lenAfter (a .j) (a .note .now)
+len-is c =
+    let a = c .before .before .before .before .before .before .before .before .args in
+    omega (arith, c .standing .ensures (a .j .counter) (a .j .bytes), length-drop 1 (a .note .now))
 
-with-body-requires : tie.Need-with-body-requires
-with-body-requires c κs = search needs
+slice-aggregate-lay-body : tie.Need-slice-aggregate-lay-body
+slice-aggregate-lay-body c = search needs
+
+lay-body-requires : tie.Need-lay-body-requires
+unfolding standing
+lay-body-requires c κs = let t = c .before .before .before .pre in (search needs, (omega arith, t .room))
 
 shared-slice-read-counter-after : tie.Need-shared-slice-read-counter-after
 shared-slice-read-counter-after c = search needs
@@ -30,10 +36,10 @@ sub-len : tie.Need-sub-len
 sub-len c = search needs
 
 add-len : tie.Need-add-len
-add-len c = search needs
+add-len c = search (needs, len-is c)
 
 cast-len : tie.Need-cast-len
-cast-len c = let t = c .before .before .before .before .before .pre in omega (arith, len-is c)
+cast-len c = let t = c .before .before .before .before .before .before .before .before .pre in omega (arith, len-is c)
 
 shared-slice-read-if1 : tie.Need-shared-slice-read-if1
 shared-slice-read-if1 c = search needs
@@ -41,18 +47,19 @@ shared-slice-read-if1 c = search needs
 returns : tie.Need-returns
 returns c =
     let s = c .before .before in
-    taken-whole _ _ (s .before .counter-after .ensures) (len-is s) (s .before .before .before .with-body .ensures) (c .if1 .taken)
+    taken-whole _ _ (s .before .counter-after .ensures) (len-is s) (s .before .before .before .before .lay-body .ensures _) (c .if1 .taken)
 
 returns-2 : tie.Need-returns-2
 returns-2 c =
     let s = c .before .before in
-    taken-more _ _ (s .before .counter-after .ensures) (len-is s) (s .before .before .before .with-body .ensures) (c .if1 .left)
+    taken-more _ _ (s .before .counter-after .ensures) (len-is s) (s .before .before .before .before .lay-body .ensures _) (c .if1 .left)
 
 pub taken-spec : {M : Type 1} → statement M
 taken-spec =
     tie.close
     (tie.spec
-    with-body-requires
+    slice-aggregate-lay-body
+    lay-body-requires
     shared-slice-read-counter-after
     counter-after-requires
     standing-requires

@@ -1,13 +1,14 @@
 -- `takes` is `takesB`, in the order of the code.
 -- Assumes nothing.
 use mathlib.Core.Path.{_≡_, sym, ap, _∙_}
+use mathlib.Core.List.{List, []}
 use Prim.Native.Nat.{ℕ, _+_, _≤_}
 use lib.Dec.{leb}
 use lib.ListN.{length}
 use borrow.Author.Tests.{not-true, not-false}
 use Rattle.octets.specs.Choice.{both}
 use Rattle.record.specs.Fields.{mostBytes}
-use Rattle.joining.specs.Joining.{rangesB, body, placedB, followsB}
+use Rattle.joining.specs.Joining.{joining, rangesB, body, placedB, followsB}
 use Rattle.joining.proofs.JoiningLaws.{takes-short, takes-not, takes-room, tested-ranges, standing-small, room-left}
 use borrow.Author.Needs.{needs}
 use native.Mathlib.Omega.{arith}
@@ -15,27 +16,28 @@ use Rattle.joining.proofs.joining.takes.Statement.{statement}
 use Rattle.joining.proofs.joining.takes.Tie as tie
 
 -- the tests that the code puts together
-tested : (c : tie.After-both2)
+tested : (c : tie.After-both2) (b : List ℕ)
     → let a = c .before .before .before .before .before .before .before .args in
-    c .both2 .result ≡ both (rangesB (a .j)) (both (placedB (a .j) (a .note .now)) (followsB (a .j) (a .note .now)))
-tested c =
+    let j = joining (a .phase) (a .counter) (a .len) b in c .both2 .result ≡ both (rangesB j) (both (placedB j (a .note .now)) (followsB j (a .note .now)))
+tested c b =
+    let a = c .before .before .before .before .before .before .before .args in
     let follows = c .before .before in
     simp (
       c .both2 .ensures,
       c .before .both .ensures,
-      follows .follows .ensures,
-      follows .before .placed .ensures,
-      follows .before .before .ranges-ok .ensures,
+      follows .follows .ensures (a .len) b,
+      follows .before .placed .ensures (a .counter) (a .len) b,
+      follows .before .before .ranges-ok .ensures b,
     )
 
 small : (c : tie.After-standing) → c .standing .result ≤ 45
 small c =
     let k = c .before .before in
-    let n = k .before .before .before .before .before .before .before .args .note .now in
-    rw (c .standing .ensures) (standing-small _ (tested-ranges _ n (omega arith) (tested k) (not-false _ (c .before .if2 .left))))
+    let a = k .before .before .before .before .before .before .before .args in
+    rw (c .standing .ensures (a .counter) []) (standing-small _ (tested-ranges _ (a .note .now) (omega arith) (tested k []) (not-false _ (c .before .if2 .left))))
 
 returns : tie.Need-returns
-returns c = sym (takes-short _ _ (c .if1 .taken))
+returns c _ = sym (takes-short _ _ (c .if1 .taken))
 
 ranges-ok-requires : tie.Need-ranges-ok-requires
 ranges-ok-requires c κs = search needs
@@ -53,7 +55,7 @@ both-requires-2 : tie.Need-both-requires-2
 both-requires-2 c κs = search needs
 
 returns-2 : tie.Need-returns-2
-returns-2 c = sym (takes-not _ _ (omega arith) (tested (c .before)) (not-true _ (c .if2 .taken)))
+returns-2 c b = sym (takes-not _ _ (omega arith) (tested (c .before) b) (not-true _ (c .if2 .taken)))
 
 sub-result : tie.Need-sub-result
 sub-result c = search needs
@@ -68,11 +70,11 @@ sub-result-2 : tie.Need-sub-result-2
 sub-result-2 c = small c
 
 returns-3 : tie.Need-returns-3
-returns-3 c =
-    let n = c .before .before .before .before .before .before .before .before .before .args .note .now in
-    room-left _ n (small c)
-    ∙ ap (λ (s : ℕ). leb (s + length (body n)) mostBytes) (c .standing .ensures)
-    ∙ sym (takes-room _ n (omega arith) (tested (c .before .before)) (not-false _ (c .before .if2 .left)))
+returns-3 c b =
+    let a = c .before .before .before .before .before .before .before .before .before .args in
+    room-left _ (a .note .now) (small c)
+    ∙ ap (λ (s : ℕ). leb (s + length (body (a .note .now))) mostBytes) (c .standing .ensures (a .counter) b)
+    ∙ sym (takes-room _ (a .note .now) (omega arith) (tested (c .before .before) b) (not-false _ (c .before .if2 .left)))
 
 pub takes-spec : {M : Type 1} → statement M
 takes-spec =
