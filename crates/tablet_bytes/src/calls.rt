@@ -1,31 +1,16 @@
 // The tablet's calls: joining, reading, keeping, carrying.
+use crate::join::JOINING_BYTES;
+use crate::join::join_state;
 use carry::stamp::Carried;
 use carry::stamp::carry;
-use joining::joining::Answer;
-use joining::joining::join;
 use keep::keep::Kept;
 use keep::keep::keep;
 use octets::parts::clear;
-use octets::parts::copy;
 use record::kinds::Reading;
 use record::kinds::Record;
 use record_read::reading::read;
-use state_bytes::joining_state::JOINING_BYTES;
-use state_bytes::joining_state::joining_image;
-use state_bytes::joining_state::joining_in;
 ghost use mathlib.Core.Path.{_≡_};
-ghost use Rattle.tablet_bytes.specs.Calls.{joinResult, fieldsIn, joined, joinAt, reading, readAt, keptBytes, keepAt, carrying, carryAt};
-
-// 0 where more is to come, the length of a whole record, or minus 10.
-fn join_result(answer: Answer, len: u8) -> i32
-    ensures { λ r. ⌜ r ≡ joinResult answer len ⌝ }
-{
-    match answer {
-        Answer::More => 0,
-        Answer::Whole => len as i32,
-        Answer::Refused => -10,
-    }
-}
+ghost use Rattle.tablet_bytes.specs.Calls.{fieldsIn, joined, joinAt, reading, readAt, keptBytes, keepAt, carrying, carryAt};
 
 // One notification joined. Refuses: 10, another length than 48 bytes too; then every byte lent becomes 0.
 // Answers 0 where more is to come, else the length of the whole record that stands there.
@@ -36,12 +21,7 @@ pub fn join_at(joining: &mut [u8], notification: &[u8]) -> i32
         clear(joining);
         return -10;
     }
-    let outcome = join(joining_in(joining), notification);
-    let answer = outcome.answer;
-    let after = outcome.joining;
-    let image = joining_image(after);
-    copy(joining, &image);
-    join_result(answer, after.len)
+    join_state(joining, notification)
 }
 
 // Sequence number, type, status, old status, fault count, zone (its byte), DST, source, accuracy, base, old
