@@ -1,4 +1,3 @@
 // The clock state and the joining state as bytes, for a caller that keeps them in buffers between calls.
-pub mod joining_state;
 pub mod state;
 pub mod theorems;

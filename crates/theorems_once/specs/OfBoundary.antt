@@ -37,10 +37,6 @@ use Rattle.state_bytes.proofs.state.image_of.Kinds as image-of-kinds
 use Rattle.state_bytes.proofs.state.image_of.Reads as image-of-reads
 use Rattle.state_bytes.proofs.state.clock_of.Kinds as clock-of-kinds
 use Rattle.state_bytes.proofs.state.clock_of.Reads as clock-of-reads
-use Rattle.state_bytes.proofs.joining_state.joining_image.Kinds as joining-image-kinds
-use Rattle.state_bytes.proofs.joining_state.joining_image.Reads as joining-image-reads
-use Rattle.state_bytes.proofs.joining_state.joining_in.Kinds as joining-in-kinds
-use Rattle.state_bytes.proofs.joining_state.joining_in.Reads as joining-in-reads
 
 pub record OneOutcome : Type 0 where
   pub start : Door start-kinds.ps start-kinds.r start-reads.Pre start-reads.Post
@@ -61,5 +57,3 @@ pub record OneOutcome : Type 0 where
   pub att-error : Door att-error-kinds.ps att-error-kinds.r att-error-reads.Pre att-error-reads.Post
   pub image-of : Only image-of-kinds.ps image-of-kinds.r image-of-reads.Pre image-of-reads.Post
   pub clock-of : Only clock-of-kinds.ps clock-of-kinds.r clock-of-reads.Pre clock-of-reads.Post
-  pub joining-image : Only joining-image-kinds.ps joining-image-kinds.r joining-image-reads.Pre joining-image-reads.Post
-  pub joining-in : Only joining-in-kinds.ps joining-in-kinds.r joining-in-reads.Pre joining-in-reads.Post

@@ -26,8 +26,6 @@ returns c =
       att-error = (λ κs a. tt, λ κs a x y u v h p q. (p ∙ sym q, refl));
       image-of = λ κs a x y u v h p q. (p ∙ sym q, refl);
       clock-of = λ κs a x y u v h p q. (p ∙ sym q, refl);
-      joining-image = λ κs a x y u v h p q. (p ∙ sym q, refl);
-      joining-in = λ κs a x y u v h p q. (p ∙ sym q, refl);
     }
 
 pub one-outcome-spec : {M : Type 1} → statement M
