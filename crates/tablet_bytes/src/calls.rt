@@ -1,16 +1,19 @@
 // The tablet's calls: joining, reading, keeping, carrying.
 use crate::join::JOINING_BYTES;
 use crate::join::join_state;
+use crate::read::fault_fields;
+use crate::read::update_fields;
 use carry::stamp::Carried;
 use carry::stamp::carry;
 use keep::keep::Kept;
 use keep::keep::keep;
 use octets::parts::clear;
-use record::kinds::Reading;
-use record::kinds::Record;
-use record_read::reading::read;
+use record_read::reading::fault_formed;
+use record_read::reading::update_formed;
+use record_write::places::FAULT_BYTES;
+use record_write::places::UPDATE_BYTES;
 ghost use mathlib.Core.Path.{_≡_};
-ghost use Rattle.tablet_bytes.specs.Calls.{fieldsIn, joined, joinAt, reading, readAt, keptBytes, keepAt, carrying, carryAt};
+ghost use Rattle.tablet_bytes.specs.Calls.{joined, joinAt, reading, readAt, keptBytes, keepAt, carrying, carryAt};
 
 // One notification joined. Refuses: 10, another length than 48 bytes too; then every byte lent becomes 0.
 // Answers 0 where more is to come, else the length of the whole record that stands there.
@@ -24,49 +27,25 @@ pub fn join_at(joining: &mut [u8], notification: &[u8]) -> i32
     join_state(joining, notification)
 }
 
-// Sequence number, type, status, old status, fault count, zone (its byte), DST, source, accuracy, base, old
-// base; 0 where the type has none.
-fn fields_in(r: Record) -> [u32; 11]
-    ensures { λ f. ⌜ f ≡ fieldsIn r ⌝ }
-{
-    match r {
-        Record::TimeUpdate(u) => [
-            u.sequence as u32,
-            1,
-            u.status as u32,
-            u.oldstatus as u32,
-            u.faults as u32,
-            u.zone as u32,
-            u.dst as u32,
-            u.source as u32,
-            u.accuracy as u32,
-            u.base,
-            u.oldbase,
-        ],
-        Record::TimeFault(f) => [
-            f.sequence as u32,
-            0,
-            f.status as u32,
-            f.oldstatus as u32,
-            f.faults as u32,
-            0,
-            0,
-            0,
-            0,
-            f.base,
-            f.oldbase,
-        ],
-    }
-}
-
-// The record that bytes are. Refuses: 11.
+// The record that bytes are. Refuses: 11. The length tells which type it must be, and both test and numbers are of the bytes
+// where they stand.
 pub fn read_at(bytes: &[u8], fields: &mut [u32; 11]) -> i32
     ensures { λ r. ⌜ reading r (now (fields .exit)) ≡ readAt (now (bytes .entry)) (now (fields .entry)) ⌝ }
 {
-    let Reading::Is(r) = read(bytes) else {
+    if bytes.len() == UPDATE_BYTES {
+        if !update_formed(bytes) {
+            return -11;
+        }
+        *fields = update_fields(bytes);
+        return 0;
+    }
+    if bytes.len() != FAULT_BYTES {
         return -11;
-    };
-    *fields = fields_in(r);
+    }
+    if !fault_formed(bytes) {
+        return -11;
+    }
+    *fields = fault_fields(bytes);
     0
 }
 
