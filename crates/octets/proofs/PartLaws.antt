@@ -6,7 +6,7 @@ use Prim.Native.Nat.{ℕ, zero, suc, _+_, _-_, _<_, _≤_}
 use native.Mathlib.Nat.{zero-add, suc-add, add-sub-cancel-left}
 use native.Mathlib.Omega.{arith}
 use lib.ListN.{length, take, drop, replicate, take-append-drop, length-append, length-take, length-drop}
-use lib.Seq.{length-take-le, take-append-le, drop-append-le, take-at, drop-at, drop-drop, drop-append-add, getD-drop}
+use lib.Seq.{take-all, take-add, take-append-seam, take-append-add, length-take-le, take-append-le, drop-append-le, take-at, drop-at, drop-drop, drop-append-add, getD-drop}
 use Rattle.octets.specs.Numbers.{at}
 use Rattle.octets.specs.Parts.{part, over, Bytes}
 
@@ -57,6 +57,37 @@ module _ (t : List ℕ) (p : ℕ) (xs : List ℕ) (h : p + length xs ≤ length 
       ap (λ (l : List ℕ). take (length xs) l) (drop-at (take p t) (xs ++ drop (p + length xs) t) p (length-take-le p t (omega arith)))
       ∙ take-at xs (drop (p + length xs) t) (length xs) refl
 
+-- the first bytes of a list with xs over it
+pub take-over : (t : List ℕ) (p : ℕ) (xs : List ℕ) → p ≤ length t → take (p + length xs) (over t p xs) ≡ take p t ++ xs
+unfolding over
+take-over t p xs h =
+    ap (λ (k : ℕ). take (k + length xs) (take p t ++ (xs ++ drop (p + length xs) t))) (sym (length-take-le p t h))
+    ∙ take-append-add (take p t) (xs ++ drop (p + length xs) t) (length xs)
+    ∙ ap (λ (l : List ℕ). take p t ++ l) (take-append-seam xs (drop (p + length xs) t))
+
+-- the next n bytes of f over a list as long
+module _ (t f : List ℕ) (same : length t ≡ length f) (p n : ℕ) (fits : p + n ≤ length f) where
+  length-part : length (part f p n) ≡ n
+  length-part = length-take-le n (drop p f) (rw length-drop (omega arith))
+
+  pub length-copied : length (over t p (part f p n)) ≡ length f
+  length-copied = length-over t p (part f p n) (rw length-part (omega arith)) ∙ same
+
+  -- it begins as f does, so far and then on
+  module _ (so-far : take p t ≡ take p f) where
+    pub copied-on : take (p + n) (over t p (part f p n)) ≡ take (p + n) f
+    copied-on =
+        ap (λ (k : ℕ). take (p + k) (over t p (part f p n))) (sym length-part)
+        ∙ take-over t p (part f p n) (omega arith)
+        ∙ ap (λ (l : List ℕ). l ++ part f p n) so-far
+        ∙ sym (take-add p n f)
+
+    pub copied-all : p + n ≡ length f → over t p (part f p n) ≡ f
+    copied-all e =
+        sym (take-all (p + n) (over t p (part f p n)) (omega (arith, length-copied)))
+        ∙ copied-on
+        ∙ take-all (p + n) f (omega arith)
+
 -- every byte stays a byte
 pub bytes-append : (a b : List ℕ) → Bytes a → Bytes b → Bytes (a ++ b)
 bytes-append a b ha hb = record { byte = go a (ha .byte) }
@@ -98,3 +129,13 @@ drop-zeros (suc n) m = rw suc-add (drop-zeros n m)
 pub part-back : (t : List ℕ) {b : List ℕ} (xs : List ℕ) (p : ℕ) → b ≡ xs → take p t ++ (b ++ drop (p + length xs - p) (drop p t)) ≡ over t p xs
 unfolding over
 part-back t xs p e = rw (e, add-sub-cancel-left p (length xs), drop-drop (length xs) p t)
+
+-- the n bytes from p on, as they are lent; such a part of t that came back as those of f
+pub lent : (f : List ℕ) (p n : ℕ) → take (p + n - p) (drop p f) ≡ part f p n
+lent f p n = ap (λ (k : ℕ). take k (drop p f)) (add-sub-cancel-left p n)
+
+pub copied-back : (t f : List ℕ) {b : List ℕ} (p n : ℕ) → p + n ≤ length f → b ≡ part f p n
+    → take p t ++ (b ++ drop (p + n - p) (drop p t)) ≡ over t p (part f p n)
+copied-back t f {b} p n h e =
+    let size : length (part f p n) ≡ n = length-take-le n (drop p f) (rw length-drop (omega arith)) in
+    ap (λ (k : ℕ). take p t ++ (b ++ drop (p + k - p) (drop p t))) (sym size) ∙ part-back t (part f p n) p e
