@@ -1,112 +1,216 @@
 /*
- * The stack that each entry point uses, in bytes: the memory below the caller is painted, the call made, and
- * the lowest byte that changed looked for. Calls go the long way: a full table of 1,023 slots, a running
- * report, a record that is joined, read, kept, carried. One line each, exact to the 16 bytes by which frames
- * are laid out; above SKIPPED nothing is painted, since the painter
- * itself stands there: 192 means so much or less.
+ * The stack that each entry point uses, in bytes. An entry point is called on a painted stack of its own, and the
+ * lowest byte that changed looked for: what is counted goes from there up to the caller's stack pointer as it is just
+ * before the call, on x86-64 with the return address. Each call is made with two paints, from the same memory, so
+ * that no byte is missed that was written with the paint. Room at the bottom of a frame that is never written is not
+ * seen: the compiler's own report has it (tools/cost). Calls go the long way: a full table of 1,023 slots, a running
+ * report, a record that is joined, read, kept, carried. One line each; of joining and reading one for each kind of
+ * call too, and last what a task needs that does both.
  */
 #include "check.h"
 #include "whiskraven.h"
 
-enum { PAINTED = 1 << 16, SKIPPED = 192, PAINT = 0xA5, SLOTS = DTS_MOST_SLOTS };
+enum { ARGUMENTS = 8, BELOW = 1 << 16, SLOTS = DTS_MOST_SLOTS };
+/* What a full segment at the smallest payload has of a Time_Update, and what is left for the second. */
+enum { BODY = DTS_SMALLEST_PAYLOAD - 1, REST = DTS_TIME_UPDATE_BYTES - BODY };
 
-static uint8_t state[DTS_STATE_BYTES], joining[DTS_JOINING_BYTES], out[DTS_LARGEST_PAYLOAD];
-static uint8_t table[DTS_TABLE_BYTES(SLOTS)], copy[DTS_TABLE_BYTES(SLOTS)];
-static uint32_t fields[DTS_FIELDS];
-static int64_t carried;
-static int32_t answer;
+typedef void (*entry_point)(void);
+
+/*
+ * Calls entry with eight arguments and with the stack pointer at top, and comes back to its own stack. What the
+ * entry point does not take it does not look at. The register that holds the caller's own stack pointer meanwhile is
+ * one that every function leaves as it was.
+ */
+int32_t call_on(uint8_t *top, entry_point entry, const uintptr_t arguments[ARGUMENTS]);
+
+#if defined __x86_64__
+/* The seventh and the eighth argument are the caller's, at its stack pointer and above. */
+__asm__(".text\n"
+        ".globl call_on\n"
+        "call_on:\n"
+        "    pushq %rbp\n"
+        "    movq %rsp, %rbp\n"
+        "    movq %rdi, %rsp\n"
+        "    movq %rsi, %rax\n"
+        "    movq %rdx, %r10\n"
+        "    movq 48(%r10), %r11\n"
+        "    movq %r11, (%rsp)\n"
+        "    movq 56(%r10), %r11\n"
+        "    movq %r11, 8(%rsp)\n"
+        "    movq (%r10), %rdi\n"
+        "    movq 8(%r10), %rsi\n"
+        "    movq 16(%r10), %rdx\n"
+        "    movq 24(%r10), %rcx\n"
+        "    movq 32(%r10), %r8\n"
+        "    movq 40(%r10), %r9\n"
+        "    callq *%rax\n"
+        "    movq %rbp, %rsp\n"
+        "    popq %rbp\n"
+        "    retq\n");
+#elif defined __aarch64__
+__asm__(".text\n"
+        ".globl call_on\n"
+        "call_on:\n"
+        "    stp x29, x30, [sp, #-16]!\n"
+        "    mov x29, sp\n"
+        "    mov sp, x0\n"
+        "    mov x9, x1\n"
+        "    mov x10, x2\n"
+        "    ldp x0, x1, [x10]\n"
+        "    ldp x2, x3, [x10, #16]\n"
+        "    ldp x4, x5, [x10, #32]\n"
+        "    ldp x6, x7, [x10, #48]\n"
+        "    blr x9\n"
+        "    mov sp, x29\n"
+        "    ldp x29, x30, [sp], #16\n"
+        "    ret\n");
+#else
+#error "no way to call an entry point on a stack of its own is known for this processor"
+#endif
+
+/* The stack to be painted, and above it the room for two arguments. */
+static uint8_t stack[BELOW + 16] __attribute__((aligned(16)));
+
+/* All that the calls write, and what it was before a call. */
+static struct {
+    uint8_t state[DTS_STATE_BYTES], out[DTS_LARGEST_PAYLOAD];
+    uint8_t table[DTS_TABLE_BYTES(SLOTS)], copy[DTS_TABLE_BYTES(SLOTS)];
+    uint8_t joining[DTS_JOINING_BYTES], too_long[DTS_JOINING_BYTES + 1];
+    uint32_t fields[DTS_FIELDS];
+    int64_t carried;
+} lent, before;
+/* Two segments of a Time_Update; records. */
+static uint8_t first[DTS_SMALLEST_PAYLOAD], last[1 + REST];
+static uint8_t unknown[DTS_TIME_UPDATE_BYTES], time_fault[DTS_TIME_FAULT_BYTES];
+static uint8_t *const joined = lent.joining + 3;
 static const uint8_t force[] = {0x03, 0x43, 0x00, 0x00, 0x08, 0xAF, 0x2F, 0x04, 0x00, 0x02, 0x01};
 static const uint8_t all[] = {0x01, 0x01};
 
-static void start(void) { answer = dts_start(state, sizeof state, table, sizeof table); }
-static void seconds(void) { answer = dts_seconds(state, sizeof state, 1); }
-static void switches(void) { answer = dts_switches(state, sizeof state, 1, 1, 1); }
-static void disconnect(void) { answer = dts_disconnect(state, sizeof state); }
-static void fault(void) { answer = dts_fault(state, sizeof state, table, sizeof table, out, sizeof out); }
-static void dtcp(void)
-{
-    answer = dts_dtcp_write(state, sizeof state, table, sizeof table, force, sizeof force, out, sizeof out);
-}
-static void racp(void)
-{
-    answer = dts_racp_write(state, sizeof state, table, sizeof table, all, sizeof all, out, sizeof out);
-}
-static void notify(void)
-{
-    answer = dts_notify(state, sizeof state, table, sizeof table, DTS_LARGEST_PAYLOAD, out, sizeof out);
-}
-static void device_time(void)
-{
-    answer = dts_device_time(state, sizeof state, table, sizeof table, out, sizeof out);
-}
-static void feature(void) { answer = dts_feature(out, sizeof out); }
-static void parameters(void) { answer = dts_parameters(out, sizeof out); }
-static void att_error(void) { answer = dts_att_error(6); }
-static void join(void) { answer = dts_join(joining, sizeof joining, out, DTS_TIME_UPDATE_BYTES + 1); }
-static void read_record(void) { answer = dts_read(joining + 3, DTS_TIME_UPDATE_BYTES, fields); }
-static void keep(void) { answer = dts_keep(copy, sizeof copy, joining + 3, DTS_TIME_UPDATE_BYTES); }
-static void carry(void) { answer = dts_carry(800000000, 1, table, sizeof table, &carried); }
+struct call {
+    const char *name;
+    entry_point entry;
+    int32_t expected;
+    uintptr_t arguments[ARGUMENTS];
+};
 
-/* Calls go through this, so that none is inlined here. */
-static void (*volatile call)(void);
-static uintptr_t top;
-
-static volatile uint8_t *at(uintptr_t address)
+/* Bytes below the caller that a call changes where they were painted so. */
+static long changed(const struct call *call, uint8_t paint)
 {
-    return (volatile uint8_t *)address;
-}
-
-/* Stands where the call will stand, and paints what is below. */
-static void paint(void)
-{
-    volatile uint8_t here = 0;
-    top = (uintptr_t)&here;
-    for (uintptr_t byte = top - PAINTED; byte < top - SKIPPED; byte++)
-        *at(byte) = PAINT;
-}
-
-static void measure(const char *name, void (*entry)(void), int32_t expected)
-{
-    call = paint;
-    call();
-    call = entry;
-    call();
-    uintptr_t low = top - PAINTED;
-    while (low < top - SKIPPED && *at(low) == PAINT)
+    long low = 0;
+    lent = before;
+    memset(stack, paint, BELOW);
+    expect(call->name, call_on(stack + BELOW, call->entry, call->arguments), call->expected);
+    while (low < BELOW && stack[low] == paint)
         low++;
-    expect(name, answer, expected);
-    printf("%-16s %ld\n", name, (long)(top - low));
+    return BELOW - low;
+}
+
+static long larger(long one, long other)
+{
+    return one > other ? one : other;
+}
+
+static long print(const char *name, long bytes)
+{
+    printf("%-30s %4ld\n", name, bytes);
+    return bytes;
+}
+
+static long measure(const struct call *call)
+{
+    before = lent;
+    changed(call, 0); /* the loader finds memset and memcpy at their first call, on this stack too */
+    return print(call->name, larger(changed(call, 0xA5), changed(call, 0x5A)));
+}
+
+#define MEASURE(name, expected, entry, ...) \
+    measure(&(const struct call){name, (entry_point)(entry), expected, {__VA_ARGS__}})
+#define BYTES(buffer) (uintptr_t)(buffer), sizeof(buffer)
+#define STATE BYTES(lent.state)
+#define TABLE BYTES(lent.table)
+#define OUT BYTES(lent.out)
+#define JOINING BYTES(lent.joining)
+#define JOINED(length) (uintptr_t)joined, length
+
+/* A Time_Fault, from the log of another reader: a slot has the record's length before the record. */
+static void note_fault(void)
+{
+    const size_t state = sizeof lent.state, copy = sizeof lent.copy;
+    expect("start", dts_start(lent.state, state, lent.copy, copy), 0);
+    expect("fault", dts_fault(lent.state, state, lent.copy, copy, lent.out, sizeof lent.out), 0);
+    memcpy(time_fault, lent.copy + DTS_HEADER_BYTES + 1, sizeof time_fault);
+}
+
+static void fill(void)
+{
+    const size_t state = sizeof lent.state, table = sizeof lent.table, out = sizeof lent.out;
+    for (int k = 0; k < SLOTS; k++)
+        expect("update", dts_dtcp_write(lent.state, state, lent.table, table, force, sizeof force, lent.out, out), 3);
+}
+
+/* The record that was notified whole, in two segments with the next counters; and one of no known type. */
+static void cut(void)
+{
+    const uint8_t *record = lent.out + 1;
+    first[0] = DTS_SEGMENT_FIRST | 1 << DTS_SEGMENT_COUNTER_SHIFT;
+    memcpy(first + 1, record, BODY);
+    last[0] = DTS_SEGMENT_LAST | 2 << DTS_SEGMENT_COUNTER_SHIFT;
+    memcpy(last + 1, record + BODY, REST);
+    memcpy(unknown, record, sizeof unknown);
+    unknown[2] = DTS_TYPE_TIME_UPDATE + 1;
+}
+
+/* The deepest of each kind of call. Those that are refused come first: they leave nothing joined. */
+static long measure_join(void)
+{
+    long most = MEASURE("dts_join, no bytes", -DTS_REFUSED_SEGMENT, dts_join, JOINING, (uintptr_t)first, 0);
+    most = larger(most, MEASURE("dts_join, a state of 49 bytes", -DTS_REFUSED_SEGMENT, dts_join, BYTES(lent.too_long),
+                                BYTES(first)));
+    most = larger(most, MEASURE("dts_join, a whole record", DTS_TIME_UPDATE_BYTES, dts_join, JOINING,
+                                (uintptr_t)lent.out, 1 + DTS_TIME_UPDATE_BYTES));
+    most = larger(most, MEASURE("dts_join, a first segment", 0, dts_join, JOINING, BYTES(first)));
+    most = larger(most, MEASURE("dts_join, a last segment", DTS_TIME_UPDATE_BYTES, dts_join, JOINING, BYTES(last)));
+    return print("dts_join", most);
+}
+
+static long measure_read(void)
+{
+    uintptr_t fields = (uintptr_t)lent.fields;
+    long most = MEASURE("dts_read, a Time_Update", 0, dts_read, JOINED(DTS_TIME_UPDATE_BYTES), fields);
+    most = larger(most, MEASURE("dts_read, a Time_Fault", 0, dts_read, BYTES(time_fault), fields));
+    most = larger(most, MEASURE("dts_read, no known type", -DTS_REFUSED_RECORD, dts_read, BYTES(unknown), fields));
+    return print("dts_read", most);
 }
 
 /* The tablet has all of the log, and the record that was joined is the one to come. */
 static void copy_log(void)
 {
-    memcpy(copy, table, sizeof copy);
-    memcpy(joining + 3, copy + 8, 2);
+    memcpy(lent.copy, lent.table, sizeof lent.copy);
+    memcpy(joined, lent.copy + 8, 2);
 }
 
 int main(void)
 {
-    start(); /* the loader finds memset and memcpy at their first call, on this stack too */
-    disconnect();
-    measure("dts_start", start, 0);
-    measure("dts_switches", switches, 0);
-    for (int k = 0; k < SLOTS; k++)
-        dtcp();
-    measure("dts_seconds", seconds, 0);
-    measure("dts_dtcp_write", dtcp, 3);
-    measure("dts_racp_write", racp, 0);
-    measure("dts_notify", notify, DTS_TIME_UPDATE_BYTES + 1);
-    measure("dts_join", join, DTS_TIME_UPDATE_BYTES);
-    measure("dts_read", read_record, 0);
+    note_fault();
+    MEASURE("dts_start", 0, dts_start, STATE, TABLE);
+    MEASURE("dts_switches", 0, dts_switches, STATE, 1, 1, 1);
+    fill();
+    MEASURE("dts_seconds", 0, dts_seconds, STATE, 1);
+    MEASURE("dts_dtcp_write", 3, dts_dtcp_write, STATE, TABLE, BYTES(force), OUT);
+    MEASURE("dts_racp_write", 0, dts_racp_write, STATE, TABLE, BYTES(all), OUT);
+    MEASURE("dts_notify", 1 + DTS_TIME_UPDATE_BYTES, dts_notify, STATE, TABLE, DTS_LARGEST_PAYLOAD, OUT);
+    cut();
+    long join = measure_join();
+    long read = measure_read();
     copy_log();
-    measure("dts_keep", keep, 0);
-    measure("dts_carry", carry, 0);
-    measure("dts_device_time", device_time, DTS_DEVICE_TIME_BYTES);
-    measure("dts_feature", feature, DTS_FEATURE_BYTES);
-    measure("dts_parameters", parameters, DTS_PARAMETERS_BYTES);
-    measure("dts_att_error", att_error, DTS_ATT_PROCEDURE_IN_PROGRESS);
-    measure("dts_fault", fault, 4);
-    measure("dts_disconnect", disconnect, 0);
+    MEASURE("dts_keep", 0, dts_keep, BYTES(lent.copy), JOINED(DTS_TIME_UPDATE_BYTES));
+    MEASURE("dts_carry", 0, dts_carry, 800000000, 1, TABLE, (uintptr_t)&lent.carried);
+    MEASURE("dts_device_time", DTS_DEVICE_TIME_BYTES, dts_device_time, STATE, TABLE, OUT);
+    MEASURE("dts_feature", DTS_FEATURE_BYTES, dts_feature, OUT);
+    MEASURE("dts_parameters", DTS_PARAMETERS_BYTES, dts_parameters, OUT);
+    MEASURE("dts_att_error", DTS_ATT_PROCEDURE_IN_PROGRESS, dts_att_error, 6);
+    MEASURE("dts_fault", 4, dts_fault, STATE, TABLE, OUT);
+    MEASURE("dts_disconnect", 0, dts_disconnect, STATE);
+    print("join, then read", larger(join, read));
     return differences != 0;
 }
