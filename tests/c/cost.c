@@ -1,7 +1,8 @@
 /*
  * Makes one kind of call a number of times over a full table of so many slots: cost KIND SLOTS TIMES. For
  * counting instructions: what TIMES more cost is the difference of two counts (tools/cost, which names the
- * kinds). Each call finds the state that the first one found.
+ * kinds). Each call finds the state that the first one found. The tablet's calls take no table, and SLOTS is
+ * nothing to them; in upper case such a kind is the same loop with a function in it that does nothing.
  */
 #include "check.h"
 #include "whiskraven.h"
@@ -96,6 +97,71 @@ static int32_t once(char kind, uint16_t next)
     }
 }
 
+static void with_table(char kind, unsigned slots, unsigned long times)
+{
+    fill(slots, kind == 'f');
+    prepare(kind, slots - 1);
+    for (unsigned long k = 0; k < times; k++) {
+        expect("call", once(kind, (uint16_t)slots), 0);
+        memcpy(state, found, sizeof state);
+    }
+}
+
+/* Each call of the tablet finds a joining state of its own, so that none is restored between them. */
+enum { MOST_TIMES = 128 };
+static uint8_t joinings[MOST_TIMES][DTS_JOINING_BYTES];
+static uint32_t fields[DTS_FIELDS];
+
+/* With these in the calls' place the loop around them can be counted alone. */
+static int32_t no_join(uint8_t *joining, size_t joining_length, const uint8_t *notification, size_t notification_length)
+{
+    (void)joining, (void)joining_length, (void)notification, (void)notification_length;
+    return 0;
+}
+
+static int32_t no_read(const uint8_t *bytes, size_t bytes_length, uint32_t *read)
+{
+    (void)bytes, (void)bytes_length, (void)read;
+    return 0;
+}
+
+static int32_t (*volatile join)(uint8_t *, size_t, const uint8_t *, size_t) = dts_join;
+static int32_t (*volatile read_record)(const uint8_t *, size_t, uint32_t *) = dts_read;
+
+static void begin_all(void)
+{
+    for (int k = 0; k < MOST_TIMES; k++)
+        expect("begin", dts_join(joinings[k], sizeof joinings[k], out, DTS_SMALLEST_PAYLOAD), 0);
+}
+
+/* j: the first segment of a Time_Update, in a notification of 20 bytes; l: the last, in one of 6. */
+static void joining(char kind, int none, unsigned long times)
+{
+    int32_t length, expected = kind == 'l' && !none ? DTS_TIME_UPDATE_BYTES : 0;
+    if (times > MOST_TIMES)
+        exit(2);
+    fill(1, 0);
+    ask(REPORT, ALL, 0, 0);
+    expect("report", access_records(), 0);
+    length = notify(DTS_SMALLEST_PAYLOAD);
+    if (kind == 'l') {
+        begin_all();
+        length = notify(DTS_SMALLEST_PAYLOAD);
+    }
+    join = none ? no_join : dts_join;
+    for (unsigned long k = 0; k < times; k++)
+        expect("join", join(joinings[k], sizeof joinings[k], out, (size_t)length), expected);
+}
+
+/* u: a Time_Update of 24 bytes, v: a Time_Fault of 20. A slot has the record's length before the record. */
+static void reading(char kind, int none, unsigned long times)
+{
+    fill(1, kind == 'v');
+    read_record = none ? no_read : dts_read;
+    for (unsigned long k = 0; k < times; k++)
+        expect("read", read_record(table + DTS_HEADER_BYTES + 1, table[DTS_HEADER_BYTES], fields), 0);
+}
+
 int main(int count, char **words)
 {
     if (count != 4)
@@ -103,11 +169,13 @@ int main(int count, char **words)
     char kind = words[1][0];
     unsigned slots = (unsigned)strtoul(words[2], 0, 10);
     unsigned long times = strtoul(words[3], 0, 10);
-    fill(slots, kind == 'f');
-    prepare(kind, slots - 1);
-    for (unsigned long k = 0; k < times; k++) {
-        expect("call", once(kind, (uint16_t)slots), 0);
-        memcpy(state, found, sizeof state);
+    int none = kind >= 'A' && kind <= 'Z';
+    if (none)
+        kind = (char)(kind - 'A' + 'a');
+    switch (kind) {
+    case 'j': case 'l': joining(kind, none, times); break;
+    case 'u': case 'v': reading(kind, none, times); break;
+    default: with_table(kind, slots, times);
     }
     return differences != 0;
 }
