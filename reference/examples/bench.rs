@@ -1,5 +1,7 @@
-//! The reference's times over the proved code's, in one run: `bench COMMAND..`, where the command
-//! runs tests/c/bench.c and prints a name and nanoseconds a line.
+//! The reference's times over the proved code's, in one run: `bench PROGRAM [BEFORE]`, where each
+//! program is tests/c/bench.c and prints a name and nanoseconds a line. The second is of another
+//! state of the code, and its times are divided too. They take turns, and the best turn of each
+//! counts.
 
 #![forbid(unsafe_code)]
 
@@ -13,6 +15,7 @@ use std::hint::black_box;
 use std::process::Command;
 use std::time::Instant;
 
+const TURNS: usize = 3;
 const ROUNDS: usize = 5;
 /// Where the joined bytes begin in a joining state.
 const RECORD_AT: usize = 3;
@@ -120,16 +123,54 @@ fn of_the_reference(name: &str) -> f64 {
     }
 }
 
-fn main() {
-    let command: Vec<String> = std::env::args().skip(1).collect();
-    let (program, arguments) = command.split_first().expect("usage: bench COMMAND..");
-    let output = Command::new(program).args(arguments).output().expect("the command runs");
-    assert!(output.status.success(), "{}", String::from_utf8_lossy(&output.stdout));
-    for line in String::from_utf8_lossy(&output.stdout).lines() {
+/// Names, each with its nanoseconds, in the order in which a program prints them.
+type Times = Vec<(String, f64)>;
+
+fn of_a_program(program: &str) -> Times {
+    let output = Command::new(program).output().expect("the program runs");
+    let lines = String::from_utf8_lossy(&output.stdout);
+    assert!(output.status.success(), "{lines}");
+    let time = |line: &str| {
         let (name, nanoseconds) = line.split_once(' ').expect("a name and nanoseconds");
-        let proved: f64 = nanoseconds.parse().expect("a number");
-        let reference = of_the_reference(name);
-        let ratio = reference / proved;
-        println!("{name}: proved {proved:.0} ns, reference {reference:.0} ns, ratio {ratio:.2}");
+        (name.to_string(), nanoseconds.parse().expect("a number"))
+    };
+    lines.lines().map(time).collect()
+}
+
+fn named(times: &Times, name: &str) -> f64 {
+    times.iter().find(|time| time.0 == name).expect("a time of that name").1
+}
+
+/// Each program's times, and last the reference's.
+fn turn(programs: &[String]) -> Vec<Times> {
+    let mut all: Vec<Times> = programs.iter().map(|program| of_a_program(program)).collect();
+    all.push(all[0].iter().map(|(name, _)| (name.clone(), of_the_reference(name))).collect());
+    all
+}
+
+/// Of two turns the lower of all times.
+fn lower(one: Vec<Times>, other: Vec<Times>) -> Vec<Times> {
+    let lower_of = |(times, others): (Times, Times)| {
+        let time = |(name, time): (String, f64)| {
+            let other = named(&others, &name);
+            (name, time.min(other))
+        };
+        times.into_iter().map(time).collect()
+    };
+    one.into_iter().zip(other).map(lower_of).collect()
+}
+
+fn main() {
+    let programs: Vec<String> = std::env::args().skip(1).collect();
+    assert!(matches!(programs.len(), 1 | 2), "usage: bench PROGRAM [BEFORE]");
+    let all = (0..TURNS).map(|_| turn(&programs)).reduce(lower).expect("a turn");
+    let (before, reference) = (&all[1..programs.len()], &all[programs.len()]);
+    for (name, proved) in &all[0] {
+        let against = |what: &str, times: &Times| {
+            let time = named(times, name);
+            format!(", {what} {time:.0} ns, {what}/proved {:.2}", time / proved)
+        };
+        let before: String = before.iter().map(|times| against("before", times)).collect();
+        println!("{name}: proved {proved:.0} ns{}{before}", against("reference", reference));
     }
 }
