@@ -8,10 +8,10 @@ use borrow.Author.Tests.{leb-true, leb-false, le-leb, lt-leb, eqb-true, eqb-fals
 use native.Mathlib.Omega.{arith}
 use lib.Dec.{leb, eqb}
 use lib.ListN.{length, take, drop, length-drop}
-use lib.Seq.{take-all, length-take-le, take-append-seam, take-append-add}
+use lib.Seq.{take-all}
 use Rattle.octets.specs.Choice.{both, either, pick}
 use Rattle.octets.specs.Parts.{over}
-use Rattle.octets.proofs.PartLaws.{length-over}
+use Rattle.octets.proofs.PartLaws.{length-over, take-over}
 use Rattle.octets.proofs.Tests.{false-by, both-reads, both-assoc}
 use Rattle.record.specs.Fields.{mostBytes}
 use Rattle.joining.specs.Joining.{empty, whole, inside, joining, blank, emptyJoining, rangesB, insideB, firstBit, lastBit, counterIn, body, filledB, placedB, followsB, standing, lenAfter, takesB, ground, joined, takenOf, joinOf, joinedIn, Ranges, Takes}
@@ -175,14 +175,6 @@ join-is j n = go (takesB j n) (eqb (lastBit n) 1) refl refl
     go true false h e =
         let l : lastBit n ≡ 0 = omega (arith, eqb-false (lastBit n) 1 e) in
         rw (join-more j n h l) (goes-on (takes-reads j n h) l)
-
--- the first bytes of a list with xs over it
-take-over : (t : List ℕ) (p : ℕ) (xs : List ℕ) → p ≤ length t → take (p + length xs) (over t p xs) ≡ take p t ++ xs
-unfolding over
-take-over t p xs h =
-    ap (λ (k : ℕ). take (k + length xs) (take p t ++ (xs ++ drop (p + length xs) t))) (sym (length-take-le p t h))
-    ∙ take-append-add (take p t) (xs ++ drop (p + length xs) t) (length xs)
-    ∙ ap (λ (l : List ℕ). take p t ++ l) (take-append-seam xs (drop (p + length xs) t))
 
 -- what stands there before: the bytes so far inside a record, none at its start
 standing-part : (j : Joining) → take (standing j) (ground j) ≡ pick (insideB j) (joinedIn j) []

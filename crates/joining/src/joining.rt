@@ -5,7 +5,7 @@ use octets::parts::clear;
 use octets::parts::put;
 use record::kinds::MOST_BYTES;
 ghost use mathlib.Core.Path.{_≡_};
-ghost use mathlib.Core.List.{List};
+ghost use mathlib.Core.List.{List, []};
 ghost use Prim.Native.Nat.{ℕ, _+_, _/_, _%_, _≤_};
 ghost use lib.Dec.{leb, eqb};
 ghost use lib.ListN.{length};
@@ -108,7 +108,7 @@ fn follows(phase: u8, counter: u8, note: &[u8]) -> bool
 }
 
 // How many bytes of the record stand there already.
-pub fn standing(phase: u8, len: u8) -> usize
+fn standing(phase: u8, len: u8) -> usize
     ensures { λ r. ⌜ ((c : ℕ) (b : List ℕ) → r ≡ Joining·standing (joining phase c len b)) ⌝ }
 {
     if phase == INSIDE {
@@ -154,6 +154,14 @@ pub fn lay_body(bytes: &mut [u8], phase: u8, len: u8, note: &[u8])
     put(bytes, standing(phase, len), &note[1..]);
 }
 
+// How many bytes of the record stand there after the notification.
+pub fn len_after(phase: u8, len: u8, note: &[u8]) -> u8
+    requires { ⌜ (1 ≤ length (now note)) × (lenAfter (joining phase 0 len []) (now note) ≤ mostBytes) ⌝ }
+    ensures { λ r. ⌜ ((c : ℕ) (b : List ℕ) → r ≡ lenAfter (joining phase c len b) (now (note .entry))) ⌝ }
+{
+    (standing(phase, len) + (note.len() - 1)) as u8
+}
+
 // "Rises by 1 per notification, 63 then 0."
 pub fn counter_after(header: u8) -> u8
     ensures { λ r. ⌜ r ≡ (header / 4 + 1) % 64 ⌝ }
@@ -169,7 +177,7 @@ fn taken(j: Joining, note: &[u8]) -> Joined
     let mut bytes = j.bytes;
     lay_body(&mut bytes, j.phase, j.len, note);
     let counter = counter_after(note[0]);
-    let len = (standing(j.phase, j.len) + (note.len() - 1)) as u8;
+    let len = len_after(j.phase, j.len, note);
     if note[0] / 2 % 2 == 1 {
         return Joined {
             answer: Answer::Whole,

@@ -4,7 +4,7 @@ use joining::joining::INSIDE;
 use joining::joining::WHOLE;
 use joining::joining::counter_after;
 use joining::joining::lay_body;
-use joining::joining::standing;
+use joining::joining::len_after;
 use joining::joining::takes;
 use octets::parts::clear;
 ghost use mathlib.Core.Path.{_≡_};
@@ -40,7 +40,7 @@ fn take_in(s: &mut [u8], note: &[u8]) -> i32
     let before = s[2];
     lay_body(&mut s[RECORD_AT..], phase, before, note);
     let counter = counter_after(note[0]);
-    let len = (standing(phase, before) + (note.len() - 1)) as u8;
+    let len = len_after(phase, before, note);
     if note[0] / 2 % 2 == 1 {
         set_head(s, WHOLE, counter, len);
         return len as i32;

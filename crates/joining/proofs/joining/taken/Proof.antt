@@ -1,20 +1,11 @@
 -- `taken` is `takenOf`, by the last bit.
 -- Assumes nothing.
-use mathlib.Core.Path.{_≡_}
-use Prim.Native.Nat.{_+_, _-_}
-use lib.ListN.{length, length-drop}
-use Rattle.joining.specs.Joining.{standing, lenAfter}
+use Rattle.joining.specs.Joining.{standing}
 use Rattle.joining.proofs.JoiningLaws.{taken-whole, taken-more}
 use borrow.Author.Needs.{needs}
 use native.Mathlib.Omega.{arith}
 use Rattle.joining.proofs.joining.taken.Statement.{statement}
 use Rattle.joining.proofs.joining.taken.Tie as tie
-
-len-is : (c : tie.After-standing)
-    → let a = c .before .before .before .before .before .before .before .before .args in c .standing .result + (length (a .note .now) - 1) ≡ lenAfter (a .j) (a .note .now)
-len-is c =
-    let a = c .before .before .before .before .before .before .before .before .args in
-    omega (arith, c .standing .ensures (a .j .counter) (a .j .bytes), length-drop 1 (a .note .now))
 
 slice-aggregate-lay-body : tie.Need-slice-aggregate-lay-body
 slice-aggregate-lay-body c = search needs
@@ -29,17 +20,9 @@ shared-slice-read-counter-after c = search needs
 counter-after-requires : tie.Need-counter-after-requires
 counter-after-requires c κs = search needs
 
-standing-requires : tie.Need-standing-requires
-standing-requires c κs = search needs
-
-sub-len : tie.Need-sub-len
-sub-len c = search needs
-
-add-len : tie.Need-add-len
-add-len c = search (needs, len-is c)
-
-cast-len : tie.Need-cast-len
-cast-len c = let t = c .before .before .before .before .before .before .before .before .pre in omega (arith, len-is c)
+len-after-requires : tie.Need-len-after-requires
+unfolding standing
+len-after-requires c κs = let t = c .before .before .before .before .before .before .before .pre in (omega arith, t .room)
 
 shared-slice-read-if1 : tie.Need-shared-slice-read-if1
 shared-slice-read-if1 c = search needs
@@ -47,12 +30,12 @@ shared-slice-read-if1 c = search needs
 returns : tie.Need-returns
 returns c =
     let s = c .before .before in
-    taken-whole _ _ (s .before .counter-after .ensures) (len-is s) (s .before .before .before .before .lay-body .ensures _) (c .if1 .taken)
+    taken-whole _ _ (s .before .counter-after .ensures) (s .len-after .ensures _ _) (s .before .before .before .before .lay-body .ensures _) (c .if1 .taken)
 
 returns-2 : tie.Need-returns-2
 returns-2 c =
     let s = c .before .before in
-    taken-more _ _ (s .before .counter-after .ensures) (len-is s) (s .before .before .before .before .lay-body .ensures _) (c .if1 .left)
+    taken-more _ _ (s .before .counter-after .ensures) (s .len-after .ensures _ _) (s .before .before .before .before .lay-body .ensures _) (c .if1 .left)
 
 pub taken-spec : {M : Type 1} → statement M
 taken-spec =
@@ -62,10 +45,7 @@ taken-spec =
     lay-body-requires
     shared-slice-read-counter-after
     counter-after-requires
-    standing-requires
-    sub-len
-    add-len
-    cast-len
+    len-after-requires
     shared-slice-read-if1
     returns
     returns-2)

@@ -1,8 +1,7 @@
 -- The body where it belongs, then the three numbers; by the last bit.
 -- Assumes nothing.
 use mathlib.Core.Path.{_≡_}
-use Prim.Native.Nat.{_+_, _-_}
-use lib.ListN.{length, drop, length-drop}
+use lib.ListN.{drop}
 use mir.Facts.{toZ-pos}
 use mir.Syntax.{w32}
 use Rattle.octets.specs.Numbers.{at}
@@ -14,13 +13,9 @@ use native.Mathlib.Omega.{arith}
 use Rattle.tablet_bytes.proofs.join.take_in.Statement.{statement}
 use Rattle.tablet_bytes.proofs.join.take_in.Tie as tie
 
-len-is : (c : tie.After-standing)
-    → let a = c .before .before .before .before .before .before .before .before .before .before .before .args in
-    c .standing .result + (length (a .note .now) - 1) ≡ lenAfter (joiningIn (a .s .now)) (a .note .now)
+len-is : (c : tie.After-len-after) → let a = c .before .before .before .before .before .before .before .before .before .before .before .args in c .len-after .result ≡ lenAfter (joiningIn (a .s .now)) (a .note .now)
 unfolding joiningIn
-len-is c =
-    let a = c .before .before .before .before .before .before .before .before .before .before .before .args in
-    omega (arith, c .standing .ensures (at (a .s .now) 1) (drop 3 (a .s .now)), length-drop 1 (a .note .now))
+len-is c = let a = c .before .before .before .before .before .before .before .before .before .before .before .args in c .len-after .ensures (at (a .s .now) 1) (drop 3 (a .s .now))
 
 slice-read-phase : tie.Need-slice-read-phase
 slice-read-phase c = search needs
@@ -48,19 +43,10 @@ shared-slice-read-counter-after c = search needs
 counter-after-requires : tie.Need-counter-after-requires
 counter-after-requires c κs = search needs
 
-standing-requires : tie.Need-standing-requires
-standing-requires c κs = search needs
-
-sub-len : tie.Need-sub-len
-sub-len c = search needs
-
-add-len : tie.Need-add-len
-add-len c =
-    let t = c .before .before .before .before .before .before .before .before .before .before .before .pre .1 in search (needs, len-is c)
-
-cast-len : tie.Need-cast-len
-cast-len c =
-    let t = c .before .before .before .before .before .before .before .before .before .before .before .pre .1 in omega (arith, len-is c)
+len-after-requires : tie.Need-len-after-requires
+unfolding standing joiningIn
+len-after-requires c κs =
+    let t = c .before .before .before .before .before .before .before .before .before .before .pre .1 in (omega arith, t .room)
 
 shared-slice-read-if1 : tie.Need-shared-slice-read-if1
 shared-slice-read-if1 c = search needs
@@ -69,9 +55,7 @@ set-head-requires : tie.Need-set-head-requires
 set-head-requires c κs = search needs
 
 cast-result : tie.Need-cast-result
-cast-result c =
-    let std = c .before .before .before .before .before .before in
-    let t = std .before .before .before .before .before .before .before .before .before .before .before .pre .1 in omega (arith, len-is std)
+cast-result c = search needs
 
 same-length : tie.Need-same-length
 same-length c = search needs
@@ -80,10 +64,10 @@ returns : tie.Need-returns
 returns c =
     let head = c .before .before in
     let then = head .before .before in
-    let std = then .before .before in
-    let lay = std .before .before .before .before .before in
+    let counted = then .before .before in
+    let lay = counted .before .before .before .before .before in
     let a = lay .before .before .before .before .before .before in
-    in-whole (a .args .s .now) (a .args .note .now) (a .pre .0) (std .before .counter-after .ensures) (len-is std) (lay .lay-body .ensures _) (then .if1 .taken) (toZ-pos w32 (omega (arith, len-is std))) (head .set-head .ensures)
+    in-whole (a .args .s .now) (a .args .note .now) (a .pre .0) (counted .before .counter-after .ensures) (len-is counted) (lay .lay-body .ensures _) (then .if1 .taken) (toZ-pos w32 (search needs)) (head .set-head .ensures)
 
 set-head-requires-2 : tie.Need-set-head-requires-2
 set-head-requires-2 c κs = search needs
@@ -95,10 +79,10 @@ returns-2 : tie.Need-returns-2
 returns-2 c =
     let head = c .before .before in
     let else = head .before .before in
-    let std = else .before .before in
-    let lay = std .before .before .before .before .before in
+    let counted = else .before .before in
+    let lay = counted .before .before .before .before .before in
     let a = lay .before .before .before .before .before .before in
-    in-more (a .args .s .now) (a .args .note .now) (a .pre .0) (std .before .counter-after .ensures) (len-is std) (lay .lay-body .ensures _) (else .if1 .left) (head .set-head2 .ensures)
+    in-more (a .args .s .now) (a .args .note .now) (a .pre .0) (counted .before .counter-after .ensures) (len-is counted) (lay .lay-body .ensures _) (else .if1 .left) (head .set-head2 .ensures)
 
 pub take-in-spec : {M : Type 1} → statement M
 take-in-spec =
@@ -112,10 +96,7 @@ take-in-spec =
     lay-body-requires
     shared-slice-read-counter-after
     counter-after-requires
-    standing-requires
-    sub-len
-    add-len
-    cast-len
+    len-after-requires
     shared-slice-read-if1
     set-head-requires
     cast-result
