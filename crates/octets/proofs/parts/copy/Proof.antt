@@ -49,7 +49,7 @@ loop-again c =
       search needs,
       ap length (eight .copy-eight .ensures) ∙ length-copied (l .to) (a .from .now) (l .inv .1) (l .k) 8 (search needs),
       ap (λ (x : List ℕ). take (l .k + 8) x) (eight .copy-eight .ensures)
-      ∙ copied-on (l .to) (a .from .now) (l .inv .1) (l .k) 8 (search needs) (l .inv .2),
+          ∙ copied-on (l .to) (a .from .now) (l .inv .1) (l .k) 8 (search needs) (l .inv .2),
     )
 
 copy-eight-requires-2 : tie.Need-copy-eight-requires-2 Inv-loop μ-loop
