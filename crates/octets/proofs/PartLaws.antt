@@ -6,7 +6,7 @@ use Prim.Native.Nat.{ℕ, zero, suc, _+_, _-_, _<_, _≤_}
 use native.Mathlib.Nat.{zero-add, suc-add, add-sub-cancel-left}
 use native.Mathlib.Omega.{arith}
 use lib.ListN.{length, take, drop, replicate, take-append-drop, length-append, length-take, length-drop}
-use lib.Seq.{take-all, take-add, take-append-seam, take-append-add, length-take-le, take-append-le, drop-append-le, take-at, drop-at, drop-drop, drop-append-add, getD-drop}
+use lib.Seq.{take-all, take-take, take-add, take-append-seam, take-append-add, length-take-le, take-append-le, drop-append-le, take-at, drop-at, drop-drop, drop-append-add, getD-drop}
 use Rattle.octets.specs.Numbers.{at}
 use Rattle.octets.specs.Parts.{part, over, Bytes}
 
@@ -73,20 +73,21 @@ module _ (t f : List ℕ) (same : length t ≡ length f) (p n : ℕ) (fits : p +
   pub length-copied : length (over t p (part f p n)) ≡ length f
   length-copied = length-over t p (part f p n) (rw length-part (omega arith)) ∙ same
 
-  -- it begins as f does, so far and then on
-  module _ (so-far : take p t ≡ take p f) where
-    pub copied-on : take (p + n) (over t p (part f p n)) ≡ take (p + n) f
-    copied-on =
-        ap (λ (k : ℕ). take (p + k) (over t p (part f p n))) (sym length-part)
-        ∙ take-over t p (part f p n) (omega arith)
-        ∙ ap (λ (l : List ℕ). l ++ part f p n) so-far
-        ∙ sym (take-add p n f)
+  -- it begins as f does so far, and so it goes on
+  pub copied-on : take p t ≡ take p f → take (p + n) (over t p (part f p n)) ≡ take (p + n) f
+  copied-on so-far =
+      ap (λ (k : ℕ). take (p + k) (over t p (part f p n))) (sym length-part)
+      ∙ take-over t p (part f p n) (omega arith)
+      ∙ ap (λ (l : List ℕ). l ++ part f p n) so-far
+      ∙ sym (take-add p n f)
 
-    pub copied-all : p + n ≡ length f → over t p (part f p n) ≡ f
-    copied-all e =
-        sym (take-all (p + n) (over t p (part f p n)) (omega (arith, length-copied)))
-        ∙ copied-on
-        ∙ take-all (p + n) f (omega arith)
+  -- the last n, where it begins as f does up to them or further
+  pub copied-all : p + n ≡ length f → (k : ℕ) → p ≤ k → take k t ≡ take k f → over t p (part f p n) ≡ f
+  copied-all e k h so-far =
+      let to-last : take p t ≡ take p f = sym (take-take p k t h) ∙ ap (λ (l : List ℕ). take p l) so-far ∙ take-take p k f h in
+      sym (take-all (p + n) (over t p (part f p n)) (omega (arith, length-copied)))
+      ∙ copied-on to-last
+      ∙ take-all (p + n) f (omega arith)
 
 -- every byte stays a byte
 pub bytes-append : (a b : List ℕ) → Bytes a → Bytes b → Bytes (a ++ b)

@@ -41,34 +41,53 @@ fn copy_each(to: &mut [u8], from: &[u8])
     }
 }
 
-// The eight bytes from `k` on, by way of an array: all are read before one is written. So the compiler makes one load
-// and one store of them, and needs not ask first whether the two overlap.
-fn copy_eight(to: &mut [u8], from: &[u8], k: usize)
-    requires { ⌜ (length (now to) ≡ length (now from)) × (k + 8 ≤ length (now from)) ⌝ }
-    ensures { λ _. ⌜ now (to .exit) ≡ over (now (to .entry)) k (part (now (from .entry)) k 8) ⌝ }
+// As many bytes from `k` on as `by` has, by way of it: all are read before one is written. Where `by` is an array, the compiler makes
+// one load and one store of this, and needs not ask first whether `to` and `from` overlap.
+fn copy_by(to: &mut [u8], from: &[u8], k: usize, by: &mut [u8])
+    requires { ⌜ (length (now to) ≡ length (now from)) × (k + length (now by) ≤ length (now from)) ⌝ }
+    ensures { λ _. ⌜ now (to .exit) ≡ over (now (to .entry)) k (part (now (from .entry)) k (length (now (by .entry)))) ⌝ }
 {
-    let end = k + 8;
-    let mut eight = [0u8; 8];
-    copy_each(&mut eight, &from[k..end]);
-    copy_each(&mut to[k..end], &eight);
+    let end = k + by.len();
+    copy_each(by, &from[k..end]);
+    copy_each(&mut to[k..end], by);
 }
 
-// `to` becomes a copy of `from`: eight bytes at a time, the last eight whether they meet the ones before or overlap them.
+// As many bytes at a time as `by` has; the last so many whether they meet the ones before or overlap them.
+fn copy_steps(to: &mut [u8], from: &[u8], by: &mut [u8])
+    requires { ⌜ (length (now to) ≡ length (now from)) × (1 ≤ length (now by)) × (length (now by) ≤ length (now from)) ⌝ }
+    ensures { λ _. ⌜ now (to .exit) ≡ now (from .entry) ⌝ }
+{
+    let step = by.len();
+    let last = from.len() - step;
+    let mut k = 0;
+    while k < last {
+        copy_by(to, from, k, by);
+        k += step;
+    }
+    copy_by(to, from, last, by);
+}
+
+// `to` becomes a copy of `from`.
 pub fn copy(to: &mut [u8], from: &[u8])
     requires { ⌜ length (now to) ≡ length (now from) ⌝ }
     ensures { λ _. ⌜ now (to .exit) ≡ now (from .entry) ⌝ }
 {
-    if from.len() < 8 {
+    if from.len() < 4 {
         copy_each(to, from);
         return;
     }
-    let last = from.len() - 8;
-    let mut k = 0;
-    while k < last {
-        copy_eight(to, from, k);
-        k += 8;
+    if from.len() < 8 {
+        let mut four = [0u8; 4];
+        copy_steps(to, from, &mut four);
+        return;
     }
-    copy_eight(to, from, last);
+    if from.len() < 16 {
+        let mut eight = [0u8; 8];
+        copy_steps(to, from, &mut eight);
+        return;
+    }
+    let mut sixteen = [0u8; 16];
+    copy_steps(to, from, &mut sixteen);
 }
 
 // `bytes` are laid over `t` from `at` on.
