@@ -58,6 +58,8 @@
  *     that calls into the same state does);
  *   - `fields` points to DTS_FIELDS numbers and `carried` to one int64_t, aligned for their types;
  *   - memcpy, memmove, memset and memcmp do what C says;
+ *   - there is stack below the call: at most 128 bytes for dts_join and dts_read, at most 640 for any other,
+ *     measured on both processors (docs/BENCHMARKS.md has each);
  *   - the bytes reach the table's memory and stay there: a write to flash, a loss of power and the radio are
  *     the caller's.
  *

@@ -5,13 +5,14 @@
  * that no byte is missed that was written with the paint. Room at the bottom of a frame that is never written is not
  * seen: the compiler's own report has it (tools/cost). Calls go the long way: a full table of 1,023 slots, a running
  * report, a record that is joined, read, kept, carried. One line each; of joining and reading one for each kind of
- * call too, and last what a task needs that does both. On the antenna board that task has 512 bytes, and a quarter of
- * them is as much as the two may use.
+ * call too, and last what a task needs that does both. None may use more than the header says.
  */
 #include "check.h"
 #include "whiskraven.h"
 
-enum { ARGUMENTS = 8, BELOW = 1 << 16, SLOTS = DTS_MOST_SLOTS, TASK = 512 };
+enum { ARGUMENTS = 8, BELOW = 1 << 16, SLOTS = DTS_MOST_SLOTS };
+/* What the header allows any call, and joining and reading: a quarter of what their task has on the antenna board. */
+enum { ANY_CALL = 640, JOINING_TASK = 128 };
 /* What a full segment at the smallest payload has of a Time_Update, and what is left for the second. */
 enum { BODY = DTS_SMALLEST_PAYLOAD - 1, REST = DTS_TIME_UPDATE_BYTES - BODY };
 
@@ -121,7 +122,9 @@ static long measure(const struct call *call)
 {
     before = lent;
     changed(call, 0); /* the loader finds memset and memcpy at their first call, on this stack too */
-    return print(call->name, larger(changed(call, 0xA5), changed(call, 0x5A)));
+    long bytes = larger(changed(call, 0xA5), changed(call, 0x5A));
+    expect("within the stack of any call", bytes <= ANY_CALL, 1);
+    return print(call->name, bytes);
 }
 
 #define MEASURE(name, expected, entry, ...) \
@@ -213,6 +216,6 @@ int main(void)
     MEASURE("dts_fault", 4, dts_fault, STATE, TABLE, OUT);
     MEASURE("dts_disconnect", 0, dts_disconnect, STATE);
     long task = print("join, then read", larger(join, read));
-    expect("joining and reading within a quarter of the task's stack", task <= TASK / 4, 1);
+    expect("within the joining task's stack", task <= JOINING_TASK, 1);
     return differences != 0;
 }

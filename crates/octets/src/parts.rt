@@ -67,7 +67,7 @@ fn copy_steps(to: &mut [u8], from: &[u8], by: &mut [u8])
     copy_by(to, from, last, by);
 }
 
-// `to` becomes a copy of `from`.
+// `to` becomes a copy of `from`. Sixteen bytes at a time were tried too, and made setting the clock slower (docs/DECISIONS.md, 174).
 pub fn copy(to: &mut [u8], from: &[u8])
     requires { ⌜ length (now to) ≡ length (now from) ⌝ }
     ensures { λ _. ⌜ now (to .exit) ≡ now (from .entry) ⌝ }
@@ -81,13 +81,8 @@ pub fn copy(to: &mut [u8], from: &[u8])
         copy_steps(to, from, &mut four);
         return;
     }
-    if from.len() < 16 {
-        let mut eight = [0u8; 8];
-        copy_steps(to, from, &mut eight);
-        return;
-    }
-    let mut sixteen = [0u8; 16];
-    copy_steps(to, from, &mut sixteen);
+    let mut eight = [0u8; 8];
+    copy_steps(to, from, &mut eight);
 }
 
 // `bytes` are laid over `t` from `at` on.

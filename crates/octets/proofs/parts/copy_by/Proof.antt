@@ -4,7 +4,6 @@ use mathlib.Core.Path.{_∙_}
 use lib.ListN.{length}
 use Rattle.octets.proofs.PartLaws.{lent, copied-back}
 use borrow.Author.Needs.{needs}
-use native.Mathlib.Omega.{arith}
 use Rattle.octets.proofs.parts.copy_by.Statement.{statement}
 use Rattle.octets.proofs.parts.copy_by.Tie as tie
 
