@@ -12,7 +12,7 @@ use lib.Seq.{take-all}
 use Rattle.octets.specs.Choice.{both, either, pick}
 use Rattle.octets.specs.Parts.{over}
 use Rattle.octets.proofs.PartLaws.{length-over, take-over}
-use Rattle.octets.proofs.Tests.{false-by, both-reads, both-assoc}
+use Rattle.octets.proofs.Tests.{false-by, both-reads, both-no, both-not}
 use Rattle.record.specs.Fields.{mostBytes}
 use Rattle.joining.specs.Joining.{empty, whole, inside, joining, blank, emptyJoining, rangesB, insideB, firstBit, lastBit, counterIn, body, filledB, placedB, followsB, standing, lenAfter, takesB, ground, joined, takenOf, joinOf, joinedIn, Ranges, Takes}
 use Rattle.joining.specs.declared.joining.Answer.the-variants.{More, Whole, Refused}
@@ -84,19 +84,22 @@ module _ (j : Joining) (n : List ℕ) where
 pub takes-short : (j : Joining) (n : List ℕ) → length n < 2 → takesB j n ≡ false
 takes-short j n h = false-by _ (λ e. let t = takes-reads j n e in omega arith)
 
-module _ (j : Joining) (n : List ℕ) (filled : 2 ≤ length n) {ok : Bool} (tested : ok ≡ both (rangesB j) (both (placedB j n) (followsB j n))) where
-  in-order : takesB j n ≡ both ok (leb (lenAfter j n) mostBytes)
+module _ (j : Joining) (n : List ℕ) where
+  pub takes-out-of-range : rangesB j ≡ false → takesB j n ≡ false
+  unfolding takesB
+  takes-out-of-range h = both-not (filledB n) (both-no (rangesB j) _ h)
+
+  pub takes-misplaced : placedB j n ≡ false → takesB j n ≡ false
+  unfolding takesB
+  takes-misplaced h = both-not (filledB n) (both-not (rangesB j) (both-no (placedB j n) _ h))
+
+  pub takes-not-following : followsB j n ≡ false → takesB j n ≡ false
+  unfolding takesB
+  takes-not-following h = both-not (filledB n) (both-not (rangesB j) (both-not (placedB j n) (both-no (followsB j n) _ h)))
+
+  pub takes-room : 2 ≤ length n → rangesB j ≡ true → placedB j n ≡ true → followsB j n ≡ true → takesB j n ≡ leb (lenAfter j n) mostBytes
   unfolding takesB filledB
-  in-order = rw tested (simp (le-leb 2 (length n) filled, both-assoc))
-
-  pub takes-not : ok ≡ false → takesB j n ≡ false
-  takes-not h = in-order ∙ rw h
-
-  pub takes-room : ok ≡ true → takesB j n ≡ leb (lenAfter j n) mostBytes
-  takes-room h = in-order ∙ rw h
-
-  pub tested-ranges : ok ≡ true → Ranges j
-  tested-ranges h = ranges-reads j (both-reads (rangesB j) _ (sym tested ∙ h) .0)
+  takes-room h r p f = rw (le-leb 2 (length n) h, r, p, f)
 
 pub standing-small : (j : Joining) → Ranges j → standing j ≤ mostBytes
 unfolding standing

@@ -1,6 +1,5 @@
 // Joining the segments of a report into records (document 01, "RACP and notifications"): the state, the reasons for
 // refusing a segment, what a segment that is taken leaves, and the call.
-use octets::choice::both;
 use octets::parts::clear;
 use octets::parts::put;
 use record::kinds::MOST_BYTES;
@@ -74,15 +73,25 @@ fn begun_ok(phase: u8, counter: u8, len: u8) -> bool
     if phase > EMPTY {
         return 1 <= len;
     }
-    both(counter == 0, len == 0)
+    if counter > 0 {
+        return false;
+    }
+    len == 0
 }
 
 fn ranges_ok(phase: u8, counter: u8, len: u8) -> bool
     ensures { λ r. ⌜ ((b : List ℕ) → r ≡ rangesB (joining phase counter len b)) ⌝ }
 {
-    let numbers = both(phase <= INSIDE, counter <= LAST_COUNTER);
-    let length = both(len <= MOST_BYTES, begun_ok(phase, counter, len));
-    both(numbers, length)
+    if phase > INSIDE {
+        return false;
+    }
+    if counter > LAST_COUNTER {
+        return false;
+    }
+    if len > MOST_BYTES {
+        return false;
+    }
+    begun_ok(phase, counter, len)
 }
 
 // "A first bit inside a record, a missing first bit at its start."
@@ -126,9 +135,13 @@ pub fn takes(phase: u8, counter: u8, len: u8, note: &[u8]) -> bool
     if note.len() < 2 {
         return false;
     }
-    let numbers = ranges_ok(phase, counter, len);
-    let segment = both(placed(phase, note), follows(phase, counter, note));
-    if !both(numbers, segment) {
+    if !ranges_ok(phase, counter, len) {
+        return false;
+    }
+    if !placed(phase, note) {
+        return false;
+    }
+    if !follows(phase, counter, note) {
         return false;
     }
     note.len() - 1 <= MOST_BYTES as usize - standing(phase, len)

@@ -1,40 +1,29 @@
--- `takes` is `takesB`, in the order of the code.
+-- `takes` is `takesB`: each way out is one part of it.
 -- Assumes nothing.
 use mathlib.Core.Path.{_≡_, sym, ap, _∙_}
+use mathlib.Core.Bool.{true}
 use mathlib.Core.List.{List, []}
 use Prim.Native.Nat.{ℕ, _+_, _≤_}
 use lib.Dec.{leb}
 use lib.ListN.{length}
 use borrow.Author.Tests.{not-true, not-false}
-use Rattle.octets.specs.Choice.{both}
 use Rattle.record.specs.Fields.{mostBytes}
-use Rattle.joining.specs.Joining.{joining, rangesB, body, placedB, followsB}
-use Rattle.joining.proofs.JoiningLaws.{takes-short, takes-not, takes-room, tested-ranges, standing-small, room-left}
+use Rattle.joining.specs.Joining.{joining, rangesB, body}
+use Rattle.joining.proofs.JoiningLaws.{ranges-reads, takes-short, takes-out-of-range, takes-misplaced, takes-not-following, takes-room, standing-small, room-left}
 use borrow.Author.Needs.{needs}
 use native.Mathlib.Omega.{arith}
 use Rattle.joining.proofs.joining.takes.Statement.{statement}
 use Rattle.joining.proofs.joining.takes.Tie as tie
 
--- the tests that the code puts together
-tested : (c : tie.After-both2) (b : List ℕ)
-    → let a = c .before .before .before .before .before .before .before .args in
-    let j = joining (a .phase) (a .counter) (a .len) b in c .both2 .result ≡ both (rangesB j) (both (placedB j (a .note .now)) (followsB j (a .note .now)))
-tested c b =
-    let a = c .before .before .before .before .before .before .before .args in
-    let follows = c .before .before in
-    simp (
-      c .both2 .ensures,
-      c .before .both .ensures,
-      follows .follows .ensures (a .len) b,
-      follows .before .placed .ensures (a .counter) (a .len) b,
-      follows .before .before .ranges-ok .ensures b,
-    )
+in-range : (c : tie.Else2) (b : List ℕ)
+    → let a = c .before .before .before .before .args in rangesB (joining (a .phase) (a .counter) (a .len) b) ≡ true
+in-range c b = sym (c .before .ranges-ok .ensures b) ∙ not-false _ (c .if2 .left)
 
 small : (c : tie.After-standing) → c .standing .result ≤ 45
 small c =
-    let k = c .before .before in
-    let a = k .before .before .before .before .before .before .before .args in
-    rw (c .standing .ensures (a .counter) []) (standing-small _ (tested-ranges _ (a .note .now) (omega arith) (tested k []) (not-false _ (c .before .if2 .left))))
+    let e2 = c .before .before .before .before .before in
+    let a = e2 .before .before .before .before .args in
+    rw (c .standing .ensures (a .counter) []) (standing-small _ (ranges-reads _ (in-range e2 [])))
 
 returns : tie.Need-returns
 returns c _ = sym (takes-short _ _ (c .if1 .taken))
@@ -42,20 +31,20 @@ returns c _ = sym (takes-short _ _ (c .if1 .taken))
 ranges-ok-requires : tie.Need-ranges-ok-requires
 ranges-ok-requires c κs = search needs
 
+returns-2 : tie.Need-returns-2
+returns-2 c b = sym (takes-out-of-range _ _ (sym (c .before .ranges-ok .ensures b) ∙ not-true _ (c .if2 .taken)))
+
 placed-requires : tie.Need-placed-requires
 placed-requires c κs = search needs
+
+returns-3 : tie.Need-returns-3
+returns-3 c b = sym (takes-misplaced _ _ (sym (c .before .placed .ensures _ _ b) ∙ not-true _ (c .if3 .taken)))
 
 follows-requires : tie.Need-follows-requires
 follows-requires c κs = search needs
 
-both-requires : tie.Need-both-requires
-both-requires c κs = search needs
-
-both-requires-2 : tie.Need-both-requires-2
-both-requires-2 c κs = search needs
-
-returns-2 : tie.Need-returns-2
-returns-2 c b = sym (takes-not _ _ (omega arith) (tested (c .before) b) (not-true _ (c .if2 .taken)))
+returns-4 : tie.Need-returns-4
+returns-4 c b = sym (takes-not-following _ _ (sym (c .before .follows .ensures _ b) ∙ not-true _ (c .if4 .taken)))
 
 sub-result : tie.Need-sub-result
 sub-result c = search needs
@@ -69,12 +58,19 @@ standing-requires c κs = search needs
 sub-result-2 : tie.Need-sub-result-2
 sub-result-2 c = small c
 
-returns-3 : tie.Need-returns-3
-returns-3 c b =
-    let a = c .before .before .before .before .before .before .before .before .before .args in
+returns-5 : tie.Need-returns-5
+returns-5 c b =
+    let e4 = c .before in
+    let e3 = e4 .before .before in
+    let e2 = e3 .before .before in
+    let a = e2 .before .before .before .before .args in
     room-left _ (a .note .now) (small c)
     ∙ ap (λ (s : ℕ). leb (s + length (body (a .note .now))) mostBytes) (c .standing .ensures (a .counter) b)
-    ∙ sym (takes-room _ (a .note .now) (omega arith) (tested (c .before .before) b) (not-false _ (c .before .if2 .left)))
+    ∙ sym
+    (takes-room _ (a .note .now) (omega arith)
+    (in-range e2 b)
+    (sym (e3 .before .placed .ensures _ _ b) ∙ not-false _ (e3 .if3 .left))
+    (sym (e4 .before .follows .ensures _ b) ∙ not-false _ (e4 .if4 .left)))
 
 pub takes-spec : {M : Type 1} → statement M
 takes-spec =
@@ -82,13 +78,13 @@ takes-spec =
     (tie.spec
     returns
     ranges-ok-requires
-    placed-requires
-    follows-requires
-    both-requires
-    both-requires-2
     returns-2
+    placed-requires
+    returns-3
+    follows-requires
+    returns-4
     sub-result
     cast-result
     standing-requires
     sub-result-2
-    returns-3)
+    returns-5)
