@@ -20,21 +20,21 @@ use Rattle.joining.specs.declared.joining.Answer.the-variants.{Whole}
 use Rattle.joining.specs.declared.joining.Joining.{Joining}
 
 -- the header byte, taken apart
-header-first : (f l : Bool) (k : ℕ) → headerOf f l k % 2 ≡ bit f
+pub header-first : (f l : Bool) (k : ℕ) → headerOf f l k % 2 ≡ bit f
 unfolding headerOf
 header-first true true k = omega arith
 header-first true false k = omega arith
 header-first false true k = omega arith
 header-first false false k = omega arith
 
-header-last : (f l : Bool) (k : ℕ) → headerOf f l k / 2 % 2 ≡ bit l
+pub header-last : (f l : Bool) (k : ℕ) → headerOf f l k / 2 % 2 ≡ bit l
 unfolding headerOf
 header-last true true k = omega arith
 header-last true false k = omega arith
 header-last false true k = omega arith
 header-last false false k = omega arith
 
-header-counter : (f l : Bool) (k : ℕ) → headerOf f l k / 4 ≡ k
+pub header-counter : (f l : Bool) (k : ℕ) → headerOf f l k / 4 ≡ k
 unfolding headerOf
 header-counter true true k = omega arith
 header-counter true false k = omega arith

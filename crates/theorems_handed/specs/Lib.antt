@@ -1,0 +1,11 @@
+pub mod Server
+pub mod Endings
+pub mod Handed
+pub mod Counted
+pub mod History
+pub mod Once
+pub mod Joined
+pub mod Left
+pub mod Started
+pub mod Cases
+pub mod Wrong
