@@ -1,2 +1,5 @@
 pub mod EndLaws
 pub mod HandLaws
+pub mod CountLaws
+pub mod RestLaws
+pub mod HistoryLaws
