@@ -3,3 +3,10 @@ pub mod HandLaws
 pub mod CountLaws
 pub mod RestLaws
 pub mod HistoryLaws
+pub mod OnceLaws
+pub mod StartedLaws
+pub mod LeftLaws
+pub mod CaseLaws
+pub mod JoinedLaws
+pub mod ReadLaws
+pub mod WrongLaws

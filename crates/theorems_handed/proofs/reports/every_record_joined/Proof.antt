@@ -1,6 +1,6 @@
 -- The segments of a report fit together, and the bytes of a held record read back.
 -- Assumes nothing.
-use Rattle.theorems_handed.proofs.JoinedLaws.{every-record-joined}
+use Rattle.theorems_handed.proofs.ReadLaws.{every-record-joined}
 use Rattle.theorems_handed.proofs.reports.every_record_joined.Statement.{statement}
 use Rattle.theorems_handed.proofs.reports.every_record_joined.Tie as tie
 
