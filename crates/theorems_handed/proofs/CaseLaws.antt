@@ -1,6 +1,6 @@
 -- The computed cases.
 -- Assumes nothing.
-use mathlib.Core.Path.{_≡_, refl}
+use mathlib.Core.Path.{refl}
 use native.Mathlib.Omega.{arith}
 use Rattle.filter.specs.declared.filter.Filter.the-variants.{All}
 use Rattle.theorems_reports.specs.World.{world}

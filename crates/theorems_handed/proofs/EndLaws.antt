@@ -6,7 +6,7 @@ use mathlib.Core.List.{List}
 use Prim.Native.Nat.{ℕ}
 use lib.Dec.{leb}
 use lib.ListN.{length}
-use Rattle.octets.specs.Choice.{either, pick}
+use Rattle.octets.specs.Choice.{either}
 use Rattle.octets.proofs.Tests.{clash}
 use Rattle.table.specs.Table.{sizeB, soundB}
 use Rattle.table.proofs.HeadLaws.{size-makes, head-size, sound-head}
@@ -111,7 +111,7 @@ module _ (c : Clock) (t : List ℕ) where
       go true h = ap (λ (u : Outcome). idleB (u .reply .clock .running)) (fault-done c t o h)
       go false h = absurd (clash _ d (ap (λ (u : Outcome). doneB (u .reply .answer)) (fault-refused c t o h) ∙ h))
 
-  aborted-idle : (r : Running) → c .running ≡ r → idleB (abortedOf c r .clock .running) ≡ true
+  pub aborted-idle : (r : Running) → c .running ≡ r → idleB (abortedOf c r .clock .running) ≡ true
   unfolding abortedOf accessed
   aborted-idle Idle e = ap idleB e
   aborted-idle (Reporting r) e = refl

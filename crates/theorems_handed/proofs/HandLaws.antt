@@ -22,7 +22,7 @@ use Rattle.clock.specs.declared.state.Left.{Left}
 use Rattle.rows.specs.Rows.{idleB}
 use Rattle.racp_request.specs.Request.{opcodeIn}
 use Rattle.racp_access.specs.Report.{firstBytes}
-use Rattle.racp_notify.specs.Notify.{bit, headerOf, counterAfter, segmentOf}
+use Rattle.racp_notify.specs.Notify.{bit, counterAfter, segmentOf}
 use Rattle.racp_notify.specs.Notify as notices
 use Rattle.joining.specs.Joining.{body, filledB}
 use Rattle.theorems_reports.specs.World.{World, world, Call, notify, stepBy, stepOf}
@@ -36,9 +36,9 @@ use Rattle.theorems_reports.proofs.StepLaws.{Step, still, asked, ended, step}
 use Rattle.theorems_reports.proofs.HeardLaws.{room-reads}
 use Rattle.theorems_reports.proofs.BeginLaws.{accepted}
 use Rattle.theorems_handed.specs.Server.{AnyCall, start, call, right, afterOf, answerTo, heardTo, Accepts, begins}
-use Rattle.theorems_handed.specs.Endings.{Ending, ongoing, closed, endingIn, endedB}
-use Rattle.theorems_handed.specs.Handed.{Course, course, until, courseBy, Handed, handed, noneB, firstB, lastB, fitsB, assembledFrom, assembled, Beginning, Complete, HandsOver}
-use Rattle.theorems_handed.proofs.EndLaws.{closedB, Cut, quiet-goes, loud-cuts, loud-idle, start-restarts}
+use Rattle.theorems_handed.specs.Endings.{Ending, ongoing, closed, endingIn}
+use Rattle.theorems_handed.specs.Handed.{Course, course, courseBy, Handed, handed, noneB, firstB, lastB, fitsB, assembledFrom, assembled, Beginning, Complete, HandsOver}
+use Rattle.theorems_handed.proofs.EndLaws.{closedB, quiet-goes, loud-cuts, loud-idle, start-restarts}
 
 abbrev pub courseOf : World → List AnyCall → Course
 courseOf = courseBy right

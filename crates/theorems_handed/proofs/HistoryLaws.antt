@@ -13,10 +13,9 @@ use Rattle.clock.specs.declared.state.Clock.{Clock}
 use Rattle.rows.specs.Rows.{idleB}
 use Rattle.update.specs.Start.{newReaderOf}
 use Rattle.racp_request.specs.Request.{opcodeIn}
-use Rattle.theorems_reports.specs.World.{World, world, newWorld, Call, recordAccess, notify, stepBy, stepOf}
-use Rattle.theorems_reports.specs.Hearing.{Heard, nothing, segment, closing, heardBy, heardOf}
+use Rattle.theorems_reports.specs.World.{World, world, newWorld, Call, recordAccess, notify, stepOf}
+use Rattle.theorems_reports.specs.Hearing.{Heard, nothing, segment, heardBy, heardOf}
 use Rattle.theorems_reports.specs.Reach.{Good}
-use Rattle.theorems_reports.specs.Reports.{reportBegun}
 use Rattle.theorems_reports.proofs.RunLaws.{Runs, closes, last, more}
 use Rattle.theorems_reports.proofs.StepLaws.{Step, still, asked, ended, step}
 use Rattle.theorems_reports.proofs.BeginLaws.{accepted}

@@ -3,7 +3,6 @@
 use mathlib.Core.Path.{_≡_, refl}
 use mathlib.Core.Bool.{true, false}
 use mathlib.Core.List.{List, [], _∷_, map}
-use Prim.Native.Nat.{ℕ}
 use Rattle.octets.proofs.Tests.{clash, both-reads}
 use Rattle.theorems_reports.specs.World.{World, Call, stepOf}
 use Rattle.theorems_reports.specs.Hearing.{Heard, nothing, segment, closing, heardOf, hearingBy, hearingOf}
@@ -11,7 +10,6 @@ use Rattle.theorems_reports.specs.Closing.{quietB, allQuietB}
 use Rattle.theorems_reports.proofs.ReportLaws.{quiet-calls, closing-report}
 use Rattle.theorems_handed.specs.Server.{call}
 use Rattle.theorems_handed.specs.Endings.{closed}
-use Rattle.theorems_handed.specs.Handed.{courseBy}
 use Rattle.theorems_handed.specs.Left.{LeftToFinish}
 use Rattle.theorems_handed.proofs.HandLaws.{courseOf, course-goes, course-segment, course-closes, is-accepted, begins-is}
 

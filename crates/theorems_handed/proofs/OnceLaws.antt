@@ -1,7 +1,5 @@
 -- Every record once, of the right server: what is handed over, by number, and that nothing else is heard.
 -- Assumes nothing.
-use Prim.Native.Nat.{ℕ}
-use mathlib.Core.List.{List}
 use Rattle.theorems_reports.proofs.BeginLaws.{accepted}
 use Rattle.theorems_handed.specs.Server.{right}
 use Rattle.theorems_handed.specs.Once.{EveryRecordOnce}

@@ -8,7 +8,6 @@ use native.Mathlib.Omega.{arith}
 use borrow.Author.Tests.{ltb-true, ltb-false}
 use lib.Dec.{ltb}
 use lib.ListN.{length, take, drop, length-take}
-use Rattle.octets.specs.Numbers.{at}
 use Rattle.octets.specs.Parts.{Bytes}
 use Rattle.filter.specs.declared.filter.Filter.{Filter}
 use Rattle.record.specs.declared.kinds.Record.{Record}

@@ -4,14 +4,13 @@ use mathlib.Core.Path.{_≡_, refl, _∙_, ap}
 use mathlib.Core.Bool.{Bool, true, false}
 use mathlib.Core.List.{List, [], _∷_}
 use Prim.Native.Nat.{ℕ, _-_}
-use lib.Dec.{leb, eqb}
+use lib.Dec.{leb}
 use lib.ListN.{length}
 use borrow.Author.Tests.{eqb-true}
 use Rattle.octets.specs.Choice.{both}
 use Rattle.octets.specs.Parts.{Bytes}
 use Rattle.octets.proofs.Tests.{clash, both-reads}
 use Rattle.filter.specs.declared.filter.Filter.{Filter}
-use Rattle.clock.specs.State.{withRunning}
 use Rattle.clock.specs.Answers.{numberOf}
 use Rattle.clock.specs.Events.{withBase, disconnected}
 use Rattle.clock.specs.Obeys.{opcodeB}
@@ -38,7 +37,7 @@ use Rattle.racp_request.specs.Request.{opcodeIn, requestOf}
 use Rattle.racp_request.specs.declared.request.Request.{Request}
 use Rattle.racp_request.specs.declared.request.Request.the-variants.{Report, Number, Abort, Refused}
 use Rattle.racp_access.specs.Report.{leftFrom}
-use Rattle.racp_access.specs.Access.{accessRows, accessed, begunOf, abortedOf, accessedOf, responseIn}
+use Rattle.racp_access.specs.Access.{accessRows, accessed, begunOf, accessedOf, responseIn}
 use Rattle.racp_access.proofs.AccessLaws.{access-refused}
 use Rattle.racp_notify.specs.Notify.{notifyRows, saidOf, unsaid, noticed, runningNotice, notifyOf}
 use Rattle.theorems_reports.specs.World.{World, world, Call, seconds, switches, disconnect, fault, timeUpdate, recordAccess, notify, stepBy, stepOf}
@@ -50,6 +49,7 @@ use Rattle.theorems_reports.proofs.AccessLaws.{left-refused, left-done, answer-
 use Rattle.theorems_handed.specs.Server.{call, right, answerTo, Accepts}
 use Rattle.theorems_handed.specs.Handed.{noneB}
 use Rattle.theorems_handed.specs.History.{reportB, beginsB}
+use Rattle.theorems_handed.proofs.EndLaws.{aborted-idle}
 
 -- nothing is heard, and no report runs after
 pub record Rests (v : World) (a : Call) : Type 0 where
@@ -77,11 +77,6 @@ decided-idle c t WrongLength i = i
 decided-idle c t (Rejected flags) i = i
 decided-idle c t (Taken p) i = ap idleB (accepted-running c p .running) ∙ i
 
-aborted-idle : (c : Clock) (r : Running) → idleB (c .running) ≡ true → idleB (abortedOf c r .clock .running) ≡ true
-unfolding abortedOf accessed
-aborted-idle c Idle i = i
-aborted-idle c (Reporting r) i = refl
-
 -- a report that begins answers without response bytes
 begun-idle : (c : Clock) (opcode : ℕ) (f : Filter) (l : Left) → idleB (c .running) ≡ true
     → noneB (responseIn (begunOf c opcode f l)) ≡ false → idleB (begunOf c opcode f l .clock .running) ≡ true
@@ -94,7 +89,7 @@ accessed-idle : (c : Clock) (t : List ℕ) (opcode : ℕ) (q : Request) → idle
 unfolding accessedOf accessed
 accessed-idle c t opcode (Report f) i n = begun-idle c opcode f (leftFrom f t 0) i n
 accessed-idle c t opcode (Number f) i n = i
-accessed-idle c t opcode Abort i n = aborted-idle c (c .running) i
+accessed-idle c t opcode Abort i n = aborted-idle c t (c .running) refl
 accessed-idle c t opcode (Refused k) i n = i
 
 module _ (v : World) (g : Good v) (i : idleB (v .clock .running) ≡ true) where

@@ -1,7 +1,6 @@
 -- From start: every world that is reached is good, and a new reader runs no report.
 -- Assumes nothing.
 use mathlib.Core.List.{List, [], _∷_}
-use Prim.Native.Nat.{ℕ}
 use Rattle.theorems_reports.specs.World.{World, newWorld}
 use Rattle.theorems_reports.specs.Reach.{Good}
 use Rattle.theorems_reports.proofs.GoodLaws.{new-good}

@@ -1,14 +1,13 @@
 -- Computed cases of each ending, on the table of three records that Finished report is computed on (20, 24 and 24 bytes; numbers 1, 2, 3).
 use mathlib.Core.Path.{_≡_}
-use mathlib.Core.Bool.{Bool, true, false}
+use mathlib.Core.Bool.{true, false}
 use mathlib.Core.List.{List, [], _∷_, _++_, map}
 use Prim.Native.Nat.{ℕ}
 use lib.ListN.{length, take, drop}
-use Rattle.octets.specs.Parts.{Bytes}
 use Rattle.filter.specs.declared.filter.Filter.the-variants.{All}
 use Rattle.record_write.specs.Layout.{bytesOf}
 use Rattle.racp_access.specs.Report.{firstBytes}
-use Rattle.theorems_reports.specs.World.{World, world, Call, seconds, disconnect, fault, recordAccess, notify}
+use Rattle.theorems_reports.specs.World.{World, world, Call, seconds, disconnect, fault, recordAccess}
 use Rattle.theorems_reports.specs.Closing.{answerOf}
 use Rattle.theorems_reports.specs.Reach.{Good}
 use Rattle.theorems_reports.specs.Cases.{table, records, reader, output, ask, asks}

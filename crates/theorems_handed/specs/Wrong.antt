@@ -1,7 +1,6 @@
 -- Wrong servers that Every record once shuts out: each is the right one but for what is said of it.
-use mathlib.Core.Path.{_≡_}
 use mathlib.Core.Bool.{Bool, true, false, not}
-use mathlib.Core.List.{List, [], _∷_, _++_}
+use mathlib.Core.List.{List, _++_}
 use Prim.Native.Nat.{ℕ, _+_, _-_}
 use lib.Dec.{eqb}
 use lib.ListN.{length, take}
@@ -18,7 +17,7 @@ use Rattle.racp_access.specs.Report.{report, firstBytes, leftFrom}
 use Rattle.theorems_reports.specs.World.{World, world, seconds, switches, disconnect, fault, timeUpdate, recordAccess, notify}
 use Rattle.theorems_reports.specs.Hearing.{Heard, nothing, segment, closing}
 use Rattle.theorems_reports.specs.Reports.{responseTo}
-use Rattle.theorems_handed.specs.Server.{AnyCall, start, call, Server, right, afterOf, answerTo, heardTo}
+use Rattle.theorems_handed.specs.Server.{AnyCall, start, call, Server, afterOf, answerTo, heardTo}
 use Rattle.theorems_handed.specs.Endings.{Ending, ongoing, closed, aborted, faulted, disconnected, restarted, endingOf}
 use Rattle.theorems_handed.specs.Handed.{lastB}
 use Rattle.theorems_handed.specs.Once.{EveryRecordOnce}
