@@ -13,7 +13,7 @@ use Rattle.octets.specs.Choice.{pick}
 use Rattle.octets.specs.Parts.{Bytes}
 use Rattle.octets.proofs.Tests.{clash}
 use Rattle.table.specs.Table.{sizeB}
-use Rattle.table.proofs.HeadLaws.{size-reads, size-makes, head-size, sound-head}
+use Rattle.table.proofs.HeadLaws.{size-reads, sound-head}
 use Rattle.table_write.specs.Start.{startOf}
 use Rattle.clock.specs.Answers.{numberOf}
 use Rattle.clock.specs.Events.{secondsOf, switchesOf, disconnectOf}
@@ -28,7 +28,7 @@ use Rattle.update.specs.Theorems.{Untouched}
 use Rattle.update.specs.Start.{newReaderOf}
 use Rattle.update.specs.TimeUpdate.{updateOf}
 use Rattle.update.proofs.PromiseLaws.{refused-unchanged}
-use Rattle.theorems_reports.proofs.GoodLaws.{new-table, new-good}
+use Rattle.theorems_reports.proofs.GoodLaws.{sound-size, new-table, new-good}
 use Rattle.racp_access.specs.Access.{accessOf}
 use Rattle.racp_notify.specs.Notify.{Notice, notifyOf}
 use Rattle.theorems_calls.specs.OfTransfer.{Silent}
@@ -189,8 +189,8 @@ module _ (s t : List ℕ) (hs : length s ≡ stateBytes) (ht : sizeB (length t) 
       ∙ ap (λ (b : ByteWorld). called (pos 0) (b .state) (b .table) []) start-is
 
 -- a good world's table has a permitted size
-good-size : (v : World) → Good v → sizeB (length (v .table)) ≡ true
-good-size v g = size-makes (length (v .table)) (head-size (v .table) (sound-head (v .table) (g .sound)))
+pub good-size : (v : World) → Good v → sizeB (length (v .table)) ≡ true
+good-size v g = sound-size (v .table) (g .sound)
 
 pub new-fit : (t : List ℕ) → sizeB (length t) ≡ true → Fit (newWorld t)
 unfolding newReaderOf
@@ -206,12 +206,12 @@ unfolding enteredOf
 entry-is v start g f = start-called (imageOf (v .clock)) (v .table) (state-images .size (v .clock)) (good-size v g)
 entry-is v (call k) g f = call-entered v k ∙ one-call v k g f
 
-entry-fit : (v : World) (k : EntryCall) → Fit v → Fit (entryOf v k)
+pub entry-fit : (v : World) (k : EntryCall) → Fit v → Fit (entryOf v k)
 unfolding entryOf
 entry-fit v start f = new-fit (v .table) (good-size v (f .good))
 entry-fit v (call k) f = call-fit v k f
 
-enter-is : (v : World) (k : EntryCall) → Fit v → enterAt (imageIn v) k ≡ imageIn (entryOf v k)
+pub enter-is : (v : World) (k : EntryCall) → Fit v → enterAt (imageIn v) k ≡ imageIn (entryOf v k)
 unfolding enterAt enteredOf entryOf calledOf
 enter-is v start f = ap (λ (x : Called). byteWorld (x .state) (x .table)) (entry-is v start (f .good) (f .fits))
 enter-is v (call k) f = ap (λ (x : Called). byteWorld (x .state) (x .table)) (entry-is v (call k) (f .good) (f .fits))

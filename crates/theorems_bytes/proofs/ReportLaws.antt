@@ -84,7 +84,7 @@ notice-heard n h = go (doneB (n .reply .answer)) refl (n .reply .closes)
     go true e false = segment-back (n .reply .len) (n .output) h
     go false e c = refused-heard (n .reply .answer) (n .output) e
 
-notify-heard : (v : World) (p : ℕ) (o : List ℕ) → calledAt (imageIn v) (notify p o) ≡ calledOf v (notify p o)
+pub notify-heard : (v : World) (p : ℕ) (o : List ℕ) → calledAt (imageIn v) (notify p o) ≡ calledOf v (notify p o)
     → heardAt (imageIn v) (notify p o) ≡ heardIn (notifyOf (v .clock) (v .table) p o)
 unfolding heardAt calledOf saidOf
 notify-heard v p o e =
@@ -188,7 +188,7 @@ quiet-one v (racpWrite w o h) l f q r =
 quiet-one v (notify p o) l f q r = r
 quiet-one v (deviceTime o) l f q r = r
 
-quiet-is : (ks : List ByteCall) (v : World) → Fit v → allQuietAt (imageIn v) ks ≡ true → allQuietB v (callsOf ks) ≡ true
+pub quiet-is : (ks : List ByteCall) (v : World) → Fit v → allQuietAt (imageIn v) ks ≡ true → allQuietB v (callsOf ks) ≡ true
 unfolding allQuietAt allQuietB callsOf
 quiet-is [] v f h = refl
 quiet-is (k ∷ ks) v f h =
@@ -215,10 +215,10 @@ calm-is (k ∷ ks) b h =
     both-yes (either-yes (allCalmB (callOf k)) _ (x .0)) ∙ calm-is ks (stepAt b k) (x .1)
 
 -- joining and reading
-abbrev numbersOf : List ℕ → Reading → ReadNumbers
+abbrev pub numbersOf : List ℕ → Reading → ReadNumbers
 numbersOf e r = reading (refusal (wellFormed.readingNumber r)) (numbersAfter e r)
 
-abbrev gotOf : List ℕ → Got → GotAt
+abbrev pub gotOf : List ℕ → Got → GotAt
 gotOf e g = gotAt (map (numbersOf e) (g .records)) (g .fine)
 
 adds : (e : List ℕ) {j : Joining} {n : List ℕ} {x : Joined} → Joins j n x → (g : Got)
@@ -240,10 +240,10 @@ joins-are e (n ∷ ns) j h =
     (joins-are e ns (joinOf j n .joining) (keeps-ranges .bytes j n h))
     ∙ adds e (join-is j n) (joinAll (joinOf j n .joining) ns)
 
-from-zeros : (e : List ℕ) (ns : List (List ℕ)) → joinAllAt e (replicate joiningBytes 0) ns ≡ gotOf e (joinAll emptyJoining ns)
+pub from-zeros : (e : List ℕ) (ns : List (List ℕ)) → joinAllAt e (replicate joiningBytes 0) ns ≡ gotOf e (joinAll emptyJoining ns)
 from-zeros e ns = ap (λ (j : List ℕ). joinAllAt e j ns) (sym (joining-images .zeros)) ∙ joins-are e ns emptyJoining empty-bytes
 
-read-all : (e : List ℕ) (l : List Record) → map (numbersOf e) (map Is l) ≡ map shownOf l
+pub read-all : (e : List ℕ) (l : List Record) → map (numbersOf e) (map Is l) ≡ map shownOf l
 read-all e [] = refl
 read-all e (r ∷ l) = ap (λ (x : List ReadNumbers). shownOf r ∷ x) (read-all e l)
 
@@ -280,11 +280,11 @@ accepted-is v w o hw f x a =
     let z = zero-reads (u .reply .answer) (u .reply .len) (sym e ∙ a .zero) in
     record { asked = a .asked; done = z .0; silent = ap (λ (n : ℕ). take n (u .output)) (z .1) }
 
-begun-fit : (v : World) (w o : List ℕ) (hw : Bytes w) → Fit v → Fit (reportBegun v w o)
+pub begun-fit : (v : World) (w o : List ℕ) (hw : Bytes w) → Fit v → Fit (reportBegun v w o)
 unfolding callOf runOf stepBy
 begun-fit v w o hw x = call-fit v (racpWrite w o hw) x
 
-begun-is : (v : World) (w o : List ℕ) (hw : Bytes w) → Fit v → stepAt (imageIn v) (racpWrite w o hw) ≡ imageIn (reportBegun v w o)
+pub begun-is : (v : World) (w o : List ℕ) (hw : Bytes w) → Fit v → stepAt (imageIn v) (racpWrite w o hw) ≡ imageIn (reportBegun v w o)
 unfolding callOf runOf stepBy
 begun-is v w o hw x = step-is v (racpWrite w o hw) x
 
@@ -297,7 +297,7 @@ answered-begun : (v : World) (w o : List ℕ) (hw : Bytes w) (ks : List ByteCall
 answered-begun v w o hw ks x =
     ap (λ (b : ByteWorld). answeredAt b ks) (begun-is v w o hw x) ∙ answered-is ks (reportBegun v w o) (begun-fit v w o hw x)
 
-asked-begun : (v : World) (w o : List ℕ) (hw : Bytes w) (ks : List ByteCall) → Fit v
+pub asked-begun : (v : World) (w o : List ℕ) (hw : Bytes w) (ks : List ByteCall) → Fit v
     → askedAt (stepAt (imageIn v) (racpWrite w o hw)) ks ≡ askedIn (reportBegun v w o) (callsOf ks)
 asked-begun v w o hw ks x =
     ap (λ (b : ByteWorld). askedAt b ks) (begun-is v w o hw x) ∙ asked-is ks (reportBegun v w o) (begun-fit v w o hw x)

@@ -70,11 +70,11 @@ on = switches 1 2 255
 
 -- A Time_Update and a Time_Fault with the number n, as bytes: number, type, flags, status after and before, fault count; of the first zone, DST,
 -- source and accuracy; the time after and before.
-abbrev updateFrom : ℕ → ℕ → ℕ → ℕ → List ℕ
+abbrev pub updateFrom : ℕ → ℕ → ℕ → ℕ → List ℕ
 updateFrom before n base old =
     bytes2 n ++ (1 ∷ 0 ∷ 0 ∷ 0 ∷ 0x16 ∷ 0 ∷ before ∷ 0 ∷ 0 ∷ 0 ∷ 4 ∷ 0 ∷ 2 ∷ 1 ∷ (bytes4 base ++ bytes4 old))
 
-abbrev update : ℕ → ℕ → ℕ → List ℕ
+abbrev pub update : ℕ → ℕ → ℕ → List ℕ
 update = updateFrom 0x16
 
 abbrev failed : ℕ → ℕ → ℕ → List ℕ

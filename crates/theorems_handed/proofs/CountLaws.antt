@@ -20,7 +20,7 @@ use Rattle.table.proofs.SlotLaws.{slotAt}
 use Rattle.table_look.specs.Matching.{matchingFrom, matching}
 use Rattle.table_look.proofs.LookLaws.{drop-held, none-left, number-at, age-held}
 use Rattle.racp_notify.specs.Notify.{bit}
-use Rattle.theorems_handed.specs.Handed.{Course, HandsOver, assembled}
+use Rattle.theorems_handed.specs.Handed.{Course, HandedFrom, assembled}
 use Rattle.theorems_handed.specs.Counted.{numberIn, times, askedFrom, risingB, Counted}
 
 -- a record's number stands first in its bytes
@@ -117,7 +117,7 @@ module _ (f : Filter) (t : List ℕ) where
       rw (drop-held t k h) (here k _ _ (row sd n (k + 1) (omega arith)) number (age-held t k sd h))
 
 -- handed over are the first j of those that match, and all of them once it is closed
-pub counted : (f : Filter) (t : List ℕ) (c : Course) → soundB t ≡ true → HandsOver (matching f t) c → Counted f t c
+pub counted : (f : Filter) (t : List ℕ) (c : Course) → soundB t ≡ true → HandedFrom (matching f t) c → Counted f t c
 unfolding matching
 counted f t c sd x =
     let z = row f t sd (count t) 0 (omega arith) in

@@ -8,8 +8,7 @@ use lib.Dec.{leb}
 use lib.ListN.{length}
 use Rattle.octets.specs.Choice.{either}
 use Rattle.octets.proofs.Tests.{clash}
-use Rattle.table.specs.Table.{sizeB, soundB}
-use Rattle.table.proofs.HeadLaws.{size-makes, head-size, sound-head}
+use Rattle.table.specs.Table.{soundB}
 use Rattle.table_write.specs.Start.{startOf}
 use Rattle.clock.specs.Answers.{numberOf}
 use Rattle.clock.specs.Obeys.{clockB}
@@ -31,9 +30,10 @@ use Rattle.racp_access.specs.Access.{accessed, abortedOf, accessedOf}
 use Rattle.theorems_reports.specs.World.{World, world, Call, seconds, switches, disconnect, fault, timeUpdate, recordAccess, notify, stepBy, stepOf}
 use Rattle.theorems_reports.specs.Hearing.{calmB}
 use Rattle.theorems_reports.specs.Closing.{answerOf, quietB}
+use Rattle.theorems_reports.proofs.GoodLaws.{sound-size}
 use Rattle.theorems_reports.proofs.AccessLaws.{left-done, answered-passed}
 use Rattle.theorems_handed.specs.Server.{start, call, right, answerTo}
-use Rattle.theorems_handed.specs.Endings.{Ending, ongoing, closed, aborted, faulted, restarted, endingOf, endingIn, endedB}
+use Rattle.theorems_handed.specs.Endings.{Ending, ongoing, closed, aborted, faulted, restarted, endingBy, endingIn, endedB}
 use Rattle.theorems_handed.specs.Endings as endings
 
 abbrev pub closedB : Ending → Bool
@@ -50,8 +50,8 @@ pub record Cut (e : Ending) : Type 0 where
   pub unclosed : closedB e ≡ false
 
 -- calls that are calm, and those that are not
-calm-ending : (a : Call) → calmB a ≡ true → endingOf (call a) ≡ ongoing
-unfolding calmB endingOf
+calm-ending : (a : Call) → calmB a ≡ true → endingBy (call a) ≡ ongoing
+unfolding calmB endingBy
 calm-ending (seconds n) h = refl
 calm-ending (switches x y z) h = refl
 calm-ending disconnect h = absurd (clash false h refl)
@@ -59,15 +59,15 @@ calm-ending (fault o) h = absurd (clash false h refl)
 calm-ending (timeUpdate w o b) h = refl
 calm-ending (recordAccess w o) h = go (requestOf w) refl
   where
-    go : (q : Request) → requestOf w ≡ q → endingOf (call (recordAccess w o)) ≡ ongoing
+    go : (q : Request) → requestOf w ≡ q → endingBy (call (recordAccess w o)) ≡ ongoing
     go (Report f) q = rw q
     go (Number f) q = rw q
     go Abort q = absurd (clash false (rw q at h) refl)
     go (Refused k) q = rw q
 calm-ending (notify p o) h = refl
 
-restless-ending : (a : Call) → calmB a ≡ false → Cut (endingOf (call a))
-unfolding calmB endingOf
+restless-ending : (a : Call) → calmB a ≡ false → Cut (endingBy (call a))
+unfolding calmB endingBy
 restless-ending (seconds n) h = absurd (clash true refl h)
 restless-ending (switches x y z) h = absurd (clash true refl h)
 restless-ending disconnect h = record { ended = refl; unclosed = refl }
@@ -75,7 +75,7 @@ restless-ending (fault o) h = record { ended = refl; unclosed = refl }
 restless-ending (timeUpdate w o b) h = absurd (clash true refl h)
 restless-ending (recordAccess w o) h = go (requestOf w) refl
   where
-    go : (q : Request) → requestOf w ≡ q → Cut (endingOf (call (recordAccess w o)))
+    go : (q : Request) → requestOf w ≡ q → Cut (endingBy (call (recordAccess w o)))
     go (Report f) q = absurd (clash true refl (rw q at h))
     go (Number f) q = absurd (clash true refl (rw q at h))
     go Abort q = rw q (record { ended = refl; unclosed = refl })
@@ -148,9 +148,6 @@ pub loud-idle : (v : World) (a : Call) → clockB (v .clock) ≡ true → quietB
 loud-idle v a ok h = let x = loud-reads (calmB a) (doneB (answerOf v a)) h in ends-idle (v .clock) (v .table) ok a (x .0) (x .1)
 
 -- a start is one too: a sound table has a permitted size
-pub sound-size : (t : List ℕ) → soundB t ≡ true → sizeB (length t) ≡ true
-sound-size t h = size-makes (length t) (head-size t (sound-head t h))
-
 pub start-restarts : (v : World) → soundB (v .table) ≡ true → endingIn right v start ≡ restarted
-unfolding answerTo endingOf newReaderOf startOf doneB numberOf
+unfolding answerTo endingBy newReaderOf startOf doneB numberOf
 start-restarts v h = rw (sound-size (v .table) h)

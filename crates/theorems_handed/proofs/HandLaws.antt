@@ -5,7 +5,7 @@ use mathlib.Core.Bool.{Bool, true, false, not}
 use mathlib.Core.List.{List, [], _∷_, _++_, map}
 use Prim.Native.Nat.{ℕ, zero, suc, _+_, _-_, _≤_, _<_}
 use native.Mathlib.Omega.{arith}
-use borrow.Author.Tests.{le-leb, lt-leb, eq-eqb, ne-eqb}
+use borrow.Author.Tests.{le-leb, lt-leb, eq-eqb}
 use lib.Dec.{eqb}
 use lib.ListN.{length, take, drop, length-take, length-drop}
 use lib.Seq.{take-add, take-all, length-take-le}
@@ -37,7 +37,7 @@ use Rattle.theorems_reports.proofs.HeardLaws.{room-reads}
 use Rattle.theorems_reports.proofs.BeginLaws.{accepted}
 use Rattle.theorems_handed.specs.Server.{AnyCall, start, call, right, afterOf, answerTo, heardTo, Accepts, begins}
 use Rattle.theorems_handed.specs.Endings.{Ending, ongoing, closed, endingIn}
-use Rattle.theorems_handed.specs.Handed.{Course, course, courseBy, Handed, handed, noneB, firstB, lastB, fitsB, assembledFrom, assembled, Beginning, Complete, HandsOver}
+use Rattle.theorems_handed.specs.Handed.{Course, course, courseBy, Handed, handed, firstSetB, lastSetB, fitsB, assembledFrom, assembled, Beginning, Complete, HandedFrom}
 use Rattle.theorems_handed.proofs.EndLaws.{closedB, quiet-goes, loud-cuts, loud-idle, start-restarts}
 
 abbrev pub courseOf : World → List AnyCall → Course
@@ -47,11 +47,6 @@ courseOf = courseBy right
 take-none : (n : ℕ) → take {A = ℕ} n [] ≡ []
 take-none zero = refl
 take-none (suc n) = refl
-
-none-take : (n : ℕ) (b : List ℕ) → n < length b → noneB (take n b) ≡ eqb n 0
-none-take zero b h = refl
-none-take (suc n) [] h = absurd (omega arith)
-none-take (suc n) (x ∷ b) h = sym (ne-eqb (suc n) 0 (λ e. omega arith))
 
 length-map : {A B : Type 0} (g : A → B) (l : List A) → length (map g l) ≡ length l
 length-map g [] = refl
@@ -80,11 +75,11 @@ in-place false = refl
 
 -- one segment with a body of q bytes, of a record b with bytes unsent
 module _ (b : List ℕ) (sent k q : ℕ) (unsent : sent < length b) (some : 1 ≤ q) where
-  first-is : firstB (segmentOf q sent k b) ≡ eqb sent 0
+  first-is : firstSetB (segmentOf q sent k b) ≡ eqb sent 0
   unfolding segmentOf
   first-is = ap (λ (n : ℕ). eqb n 1) (header-first (eqb sent 0) (notices.lastB q sent b) k) ∙ bit-back (eqb sent 0)
 
-  last-is : lastB (segmentOf q sent k b) ≡ notices.lastB q sent b
+  last-is : lastSetB (segmentOf q sent k b) ≡ notices.lastB q sent b
   unfolding segmentOf
   last-is = ap (λ (n : ℕ). eqb n 1) (header-last (eqb sent 0) (notices.lastB q sent b) k) ∙ bit-back (notices.lastB q sent b)
 
@@ -95,7 +90,7 @@ module _ (b : List ℕ) (sent k q : ℕ) (unsent : sent < length b) (some : 1 �
       let d = length-drop sent b in
       both-yes (le-leb 2 (length (segmentOf q sent k b)) (omega arith))
       ∙ both-yes (eq-eqb _ _ (header-counter (eqb sent 0) (notices.lastB q sent b) k))
-      ∙ rw (none-take sent b unsent, first-is) (in-place (eqb sent 0))
+      ∙ rw (length-take-le sent b (omega arith), first-is) (in-place (eqb sent 0))
 
   here : take sent b ++ body (segmentOf q sent k b) ≡ take (sent + q) b
   unfolding segmentOf
@@ -288,7 +283,7 @@ unfolding afterOf stepBy
 begins-is v w o = refl
 
 pub hands-over : (v : World) (w o : List ℕ) (f : Filter) (ks : List AnyCall) → Bytes (v .table) → Accepts right v w o f
-    → HandsOver (matching f (v .table)) (courseOf (begins right v w o) ks)
+    → HandedFrom (matching f (v .table)) (courseOf (begins right v w o) ks)
 unfolding assembledFrom
 hands-over v w o f ks hb a =
     let l = matching f (v .table) in

@@ -19,12 +19,11 @@ use Rattle.theorems_reports.specs.Reach.{Good}
 use Rattle.theorems_reports.proofs.RunLaws.{Runs, closes, last, more}
 use Rattle.theorems_reports.proofs.StepLaws.{Step, still, asked, ended, step}
 use Rattle.theorems_reports.proofs.BeginLaws.{accepted}
-use Rattle.theorems_reports.proofs.GoodLaws.{new-good}
+use Rattle.theorems_reports.proofs.GoodLaws.{sound-size, new-good}
 use Rattle.theorems_reports.proofs.ReachLaws.{call-good}
 use Rattle.theorems_handed.specs.Server.{AnyCall, start, call, right, afterOf, heardTo, Accepts, begins}
 use Rattle.theorems_handed.specs.Handed.{Course, courseBy}
-use Rattle.theorems_handed.specs.History.{noted, notesBy, beginsB, coursesBy, notesIn}
-use Rattle.theorems_handed.proofs.EndLaws.{sound-size}
+use Rattle.theorems_handed.specs.History.{segmentThen, notesBy, beginsB, coursesBy, notesIn}
 use Rattle.theorems_handed.proofs.HandLaws.{courseOf, course-goes, course-stops, course-segment, course-closes, course-starts, quiet-notify, still-quiet, is-accepted, begins-is}
 use Rattle.theorems_handed.proofs.RestLaws.{rests, Beginner, starts, begins-reads, busy-begins, closing-idle}
 
@@ -36,7 +35,7 @@ told v ks = notesIn (coursesBy right v ks)
 
 -- one call, given what is heard of it, the world after, and whether it begins a report
 module _ (v w : World) (a : Call) (ks : List AnyCall) where
-  said-one : (x : Heard) → heardOf v a ≡ x → stepOf v a ≡ w → said v (call a ∷ ks) ≡ noted x (said w ks)
+  said-one : (x : Heard) → heardOf v a ≡ x → stepOf v a ≡ w → said v (call a ∷ ks) ≡ segmentThen x (said w ks)
   unfolding notesBy afterOf heardTo
   said-one x h s = rw (h, s)
 
@@ -130,7 +129,7 @@ module _ (ks : List AnyCall) (resting : Resting ks) (running : Running ks)
         )
         (said-one (world c t) (world d t) a ks _ e1 e2 ∙ ap (_∷_ b) (running t sd hb opcode f d _ _ _ h s))
 
-    goes-no-further : (a : Call) (x : Heard) → heardOf (world c t) a ≡ x → ((n : List (List ℕ)) → noted x n ≡ n)
+    goes-no-further : (a : Call) (x : Heard) → heardOf (world c t) a ≡ x → ((n : List (List ℕ)) → segmentThen x n ≡ n)
         → idleB (stepOf (world c t) a .clock .running) ≡ true → courseOf (world c t) (call a ∷ ks) .notes ≡ [] → Goes (call a ∷ ks) c
     goes-no-further a x e n i s =
         rw (s, told-none (world c t) _ a ks (unbegun a) refl)

@@ -5,7 +5,7 @@ use mathlib.Core.Bool.{Bool, true, false, not}
 use mathlib.Core.List.{List, [], _∷_, _++_, map, append-nil, append-assoc}
 use Prim.Native.Nat.{ℕ, _+_, _/_, _%_, _≤_, _<_}
 use native.Mathlib.Omega.{arith}
-use borrow.Author.Tests.{ne-eqb, le-leb, lt-leb, eqb-true, eqb-false, leb-true, not-true}
+use borrow.Author.Tests.{le-leb, lt-leb, eqb-true, eqb-false, leb-true, not-true}
 use lib.Dec.{leb, eqb}
 use lib.ListN.{length, take, drop, length-append}
 use lib.Seq.{drop-cons, take-append-seam, drop-append-seam, take-append-le}
@@ -22,7 +22,7 @@ use Rattle.joining.specs.declared.joining.Answer.the-variants.{Whole}
 use Rattle.joining.specs.declared.joining.Joining.{Joining}
 use Rattle.theorems_reports.specs.Joined.{got, joinAll}
 use Rattle.theorems_reports.proofs.JoinLaws.{Synced, synced-empty, join-last, join-more}
-use Rattle.theorems_handed.specs.Handed.{Handed, handed, noneB, firstB, lastB, fitsB, assembledFrom}
+use Rattle.theorems_handed.specs.Handed.{Handed, handed, firstSetB, lastSetB, fitsB, assembledFrom}
 use Rattle.theorems_handed.specs.Joined.{Short, JoiningAssembles}
 
 -- what is asked of segments: they fit together, and no record is longer than 45 bytes
@@ -35,18 +35,18 @@ record Fine (h : Handed) : Type 0 where
 record Fits (k : ℕ) (part n : List ℕ) : Type 0 where
   filled : 2 ≤ length n
   counter : counterIn n ≡ k
-  first : firstB n ≡ eqb (length part) 0
+  first : firstSetB n ≡ eqb (length part) 0
 
-first-reads : (part : List ℕ) (x : Bool) → pick (noneB part) x (not x) ≡ true → x ≡ eqb (length part) 0
-first-reads [] x h = h
-first-reads (b ∷ l) x h = not-true x h ∙ sym (ne-eqb (length (b ∷ l)) 0 (λ e. omega arith))
+first-reads : (b x : Bool) → pick b x (not x) ≡ true → x ≡ b
+first-reads true x h = h
+first-reads false x h = not-true x h
 
 fits-reads : (k : ℕ) (part n : List ℕ) → fitsB k part n ≡ true → Fits k part n
 unfolding filledB
 fits-reads k part n h =
     let x = both-reads (filledB n) _ h in
     let y = both-reads (eqb (counterIn n) k) _ (x .1) in
-    record { filled = leb-true 2 (length n) (x .0); counter = eqb-true (counterIn n) k (y .0); first = first-reads part (firstB n) (y .1) }
+    record { filled = leb-true 2 (length n) (x .0); counter = eqb-true (counterIn n) k (y .0); first = first-reads (eqb (length part) 0) (firstSetB n) (y .1) }
 
 -- a header byte is made of what is read in it
 header-is : (f l : Bool) (h k : ℕ) → eqb (h % 2) 1 ≡ f → eqb (h / 2 % 2) 1 ≡ l → h / 4 ≡ k → h ≡ headerOf f l k
@@ -73,20 +73,20 @@ module _ (k : ℕ) (part n : List ℕ) (f : Fits k part n) where
   next-bytes : (tail : List ℕ) → take q (drop (length part) (with-tail tail)) ≡ body n
   next-bytes tail = ap (take q) (drop-append-seam part (body n ++ tail)) ∙ take-append-seam (body n) tail
 
-  segment-is : (tail : List ℕ) (l : Bool) → lastB n ≡ l → leb (length (with-tail tail)) (length part + q) ≡ l
+  segment-is : (tail : List ℕ) (l : Bool) → lastSetB n ≡ l → leb (length (with-tail tail)) (length part + q) ≡ l
       → n ≡ segmentOf q (length part) k (with-tail tail)
   unfolding segmentOf
   segment-is tail l e m =
       rw (next-bytes tail, m)
       (drop-cons n 0 0 (omega (arith, f .filled)) ∙ ap (λ (h : ℕ). h ∷ body n) (header-is _ _ (at n 0) k (f .first) e (f .counter)))
 
-  segment-last : lastB n ≡ true → n ≡ segmentOf q (length part) k (part ++ body n)
+  segment-last : lastSetB n ≡ true → n ≡ segmentOf q (length part) k (part ++ body n)
   segment-last e =
       segment-is [] true e (le-leb (length (with-tail [])) (length part + q) (omega (arith, sizes [])))
       ∙ ap (λ (b : List ℕ). segmentOf q (length part) k (part ++ b)) (append-nil (body n))
 
   -- not the last one: whatever byte comes after it
-  segment-more : lastB n ≡ false → n ≡ segmentOf q (length part) k (with-tail (0 ∷ []))
+  segment-more : lastSetB n ≡ false → n ≡ segmentOf q (length part) k (with-tail (0 ∷ []))
   segment-more e =
       let tail : List ℕ = 0 ∷ [] in
       segment-is tail false e (lt-leb (length (with-tail tail)) (length part + q) (omega (arith, sizes tail)))
@@ -110,12 +110,12 @@ module _ (k : ℕ) (part n : List ℕ) (ns : List (List ℕ)) where
   abbrev more : Handed
   more = assembledFrom (counterAfter k) (part ++ body n) ns
 
-  assembled-last : lastB n ≡ true
+  assembled-last : lastSetB n ≡ true
       → assembledFrom k part (n ∷ ns) ≡ handed ((part ++ body n) ∷ last .whole) (last .unfinished) (both (fitsB k part n) (last .fitting))
   unfolding assembledFrom
   assembled-last e = rw e
 
-  assembled-more : lastB n ≡ false
+  assembled-more : lastSetB n ≡ false
       → assembledFrom k part (n ∷ ns) ≡ handed (more .whole) (more .unfinished) (both (fitsB k part n) (more .fitting))
   unfolding assembledFrom
   assembled-more e = rw e
@@ -125,7 +125,7 @@ module _ (k : ℕ) (part n : List ℕ) (ns : List (List ℕ)) where
     here : length (part ++ body n) ≤ 45
     rest : Fine last
 
-  fine-last : lastB n ≡ true → Fine (assembledFrom k part (n ∷ ns)) → Last
+  fine-last : lastSetB n ≡ true → Fine (assembledFrom k part (n ∷ ns)) → Last
   fine-last e h =
       let f = rw (assembled-last e) at h in
       let x = both-reads (fitsB k part n) (last .fitting) (f .fitting) in
@@ -139,7 +139,7 @@ module _ (k : ℕ) (part n : List ℕ) (ns : List (List ℕ)) where
     fits : Fits k part n
     rest : Fine more
 
-  fine-more : lastB n ≡ false → Fine (assembledFrom k part (n ∷ ns)) → More
+  fine-more : lastSetB n ≡ false → Fine (assembledFrom k part (n ∷ ns)) → More
   fine-more e h =
       let f = rw (assembled-more e) at h in
       let x = both-reads (fitsB k part n) (more .fitting) (f .fitting) in
@@ -149,9 +149,9 @@ module _ (k : ℕ) (part n : List ℕ) (ns : List (List ℕ)) where
 under-way : (ns : List (List ℕ)) (k : ℕ) (part : List ℕ) → Fine (assembledFrom k part ns) → length part < 45
 unfolding assembledFrom
 under-way [] k part h = h .few
-under-way (n ∷ ns) k part h = go (under-way ns (counterAfter k) (part ++ body n)) (lastB n) refl
+under-way (n ∷ ns) k part h = go (under-way ns (counterAfter k) (part ++ body n)) (lastSetB n) refl
   where
-    go : (Fine (assembledFrom (counterAfter k) (part ++ body n) ns) → length (part ++ body n) < 45) → (l : Bool) → lastB n ≡ l → length part < 45
+    go : (Fine (assembledFrom (counterAfter k) (part ++ body n) ns) → length (part ++ body n) < 45) → (l : Bool) → lastSetB n ≡ l → length part < 45
     go later true e =
         let x = fine-last k part n ns e h in
         let y = some k part n (x .fits) in
@@ -182,7 +182,7 @@ module _ (k : ℕ) (part n : List ℕ) (ns : List (List ℕ)) (later : Joins ns)
   begins-with : (b : List ℕ) → Synced (part ++ b) (length part) k j
   begins-with b = synced-with (sym (take-append-le (length part) part b (omega arith))) s
 
-  joins-last : lastB n ≡ true → Last k part n ns → joinAll j (n ∷ ns) ≡ got (map readOf ((part ++ body n) ∷ last k part n ns .whole)) true
+  joins-last : lastSetB n ≡ true → Last k part n ns → joinAll j (n ∷ ns) ≡ got (map readOf ((part ++ body n) ∷ last k part n ns .whole)) true
   joins-last e x =
       let f = x .fits in
       let c = some k part n f in
@@ -191,7 +191,7 @@ module _ (k : ℕ) (part n : List ℕ) (ns : List (List ℕ)) (later : Joins ns)
       joins-whole j _ n ns (part ++ body n) _ (ap (joinOf j) (segment-last k part n f e) ∙ z .joins) (z .whole)
       (later (counterAfter k) [] _ (z .synced []) (x .rest))
 
-  joins-more : lastB n ≡ false → More k part n ns → joinAll j (n ∷ ns) ≡ got (map readOf (more k part n ns .whole)) true
+  joins-more : lastSetB n ≡ false → More k part n ns → joinAll j (n ∷ ns) ≡ got (map readOf (more k part n ns .whole)) true
   joins-more e x =
       let f = x .fits in
       let here = part ++ body n in
@@ -211,9 +211,9 @@ module _ (k : ℕ) (part n : List ℕ) (ns : List (List ℕ)) (later : Joins ns)
 joins-all : (ns : List (List ℕ)) → Joins ns
 unfolding joinAll assembledFrom
 joins-all [] k part j s h = refl
-joins-all (n ∷ ns) k part j s h = go (joins-all ns) (lastB n) refl
+joins-all (n ∷ ns) k part j s h = go (joins-all ns) (lastSetB n) refl
   where
-    go : Joins ns → (l : Bool) → lastB n ≡ l → joinAll j (n ∷ ns) ≡ got (map readOf (assembledFrom k part (n ∷ ns) .whole)) true
+    go : Joins ns → (l : Bool) → lastSetB n ≡ l → joinAll j (n ∷ ns) ≡ got (map readOf (assembledFrom k part (n ∷ ns) .whole)) true
     go later true e = rw (assembled-last k part n ns e) (joins-last k part n ns later j s e (fine-last k part n ns e h))
     go later false e = rw (assembled-more k part n ns e) (joins-more k part n ns later j s e (fine-more k part n ns e h))
 

@@ -26,7 +26,7 @@ use Rattle.theorems_reports.specs.Joined.{got, joinAll}
 use Rattle.theorems_reports.proofs.HeldLaws.{held-reads}
 use Rattle.theorems_reports.proofs.BeginLaws.{accepted}
 use Rattle.theorems_handed.specs.Server.{right}
-use Rattle.theorems_handed.specs.Handed.{Course, assembled, HandsOver}
+use Rattle.theorems_handed.specs.Handed.{Course, assembled, HandedFrom}
 use Rattle.theorems_handed.specs.Joined.{Short, EveryRecordJoined}
 use Rattle.theorems_handed.proofs.HandLaws.{is-accepted, hands-over}
 use Rattle.theorems_handed.proofs.JoinedLaws.{joining-assembles}
@@ -57,7 +57,7 @@ short-whole w n l e = rw e (short-take n l)
 few-unfinished : (u : List ℕ) (n : ℕ) (l : List Record) → u ≡ take n (firstBytes l) → length u < 45
 few-unfinished u n l e = rw e (omega (arith, length-take n (firstBytes l), few-first l))
 
-joined : (l : List Record) (c : Course) → Reads l → HandsOver l c
+joined : (l : List Record) (c : Course) → Reads l → HandedFrom l c
     → joinAll emptyJoining (c .notes) ≡ got (map Is (take (length (assembled (c .notes) .whole)) l)) true
 joined l c r h =
     let b = h .beginning in

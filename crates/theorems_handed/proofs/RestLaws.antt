@@ -4,8 +4,9 @@ use mathlib.Core.Path.{_≡_, refl, _∙_, ap}
 use mathlib.Core.Bool.{Bool, true, false}
 use mathlib.Core.List.{List, [], _∷_}
 use Prim.Native.Nat.{ℕ, _-_}
-use lib.Dec.{leb}
+use lib.Dec.{leb, eqb}
 use lib.ListN.{length}
+use native.Mathlib.Omega.{arith}
 use borrow.Author.Tests.{eqb-true}
 use Rattle.octets.specs.Choice.{both}
 use Rattle.octets.specs.Parts.{Bytes}
@@ -47,8 +48,7 @@ use Rattle.theorems_reports.specs.Closing.{answerOf}
 use Rattle.theorems_reports.proofs.RequestLaws.{request-report}
 use Rattle.theorems_reports.proofs.AccessLaws.{left-refused, left-done, answer-done, response-done, rows-passed}
 use Rattle.theorems_handed.specs.Server.{call, right, answerTo, Accepts}
-use Rattle.theorems_handed.specs.Handed.{noneB}
-use Rattle.theorems_handed.specs.History.{reportB, beginsB}
+use Rattle.theorems_handed.specs.History.{asksReportB, beginsB}
 use Rattle.theorems_handed.proofs.EndLaws.{aborted-idle}
 
 -- nothing is heard, and no report runs after
@@ -79,13 +79,13 @@ decided-idle c t (Taken p) i = ap idleB (accepted-running c p .running) ∙ i
 
 -- a report that begins answers without response bytes
 begun-idle : (c : Clock) (opcode : ℕ) (f : Filter) (l : Left) → idleB (c .running) ≡ true
-    → noneB (responseIn (begunOf c opcode f l)) ≡ false → idleB (begunOf c opcode f l .clock .running) ≡ true
+    → eqb (length (responseIn (begunOf c opcode f l))) 0 ≡ false → idleB (begunOf c opcode f l .clock .running) ≡ true
 unfolding begunOf accessed
 begun-idle c opcode f Nothing i n = i
 begun-idle c opcode f (From number sent) i n = absurd (clash true refl n)
 
 accessed-idle : (c : Clock) (t : List ℕ) (opcode : ℕ) (q : Request) → idleB (c .running) ≡ true
-    → both (reportB q) (noneB (responseIn (accessedOf c t opcode q))) ≡ false → idleB (accessedOf c t opcode q .clock .running) ≡ true
+    → both (asksReportB q) (eqb (length (responseIn (accessedOf c t opcode q))) 0) ≡ false → idleB (accessedOf c t opcode q .clock .running) ≡ true
 unfolding accessedOf accessed
 accessed-idle c t opcode (Report f) i n = begun-idle c opcode f (leftFrom f t 0) i n
 accessed-idle c t opcode (Number f) i n = i
@@ -155,9 +155,9 @@ module _ (v : World) (g : Good v) (i : idleB (v .clock .running) ≡ true) where
 pub data Beginner (v : World) : Call → Type 0 where
   starts : {w o : List ℕ} (f : Filter) → Accepts right v w o f → Beginner v (recordAccess w o)
 
-none-reads : (l : List ℕ) → noneB l ≡ true → l ≡ []
+none-reads : (l : List ℕ) → eqb (length l) 0 ≡ true → l ≡ []
 none-reads [] h = refl
-none-reads (x ∷ l) h = absurd (clash false h refl)
+none-reads (x ∷ l) h = let e = eqb-true (length (x ∷ l)) 0 h in absurd (omega arith)
 
 pub begins-reads : (v : World) (a : Call) → beginsB right v (call a) ≡ true → Beginner v a
 unfolding beginsB

@@ -3,11 +3,10 @@
 use mathlib.Core.List.{List, [], _∷_}
 use Rattle.theorems_reports.specs.World.{World, newWorld}
 use Rattle.theorems_reports.specs.Reach.{Good}
-use Rattle.theorems_reports.proofs.GoodLaws.{new-good}
+use Rattle.theorems_reports.proofs.GoodLaws.{sound-size, new-good}
 use Rattle.theorems_reports.proofs.ReachLaws.{call-good}
 use Rattle.theorems_handed.specs.Server.{AnyCall, start, call, afterOf}
 use Rattle.theorems_handed.specs.Started.{ranOver, EveryReachedOnce}
-use Rattle.theorems_handed.proofs.EndLaws.{sound-size}
 use Rattle.theorems_handed.proofs.HistoryLaws.{new-idle}
 use Rattle.theorems_handed.proofs.OnceLaws.{every-record-once}
 

@@ -13,7 +13,7 @@ use Rattle.theorems_reports.specs.Reach.{Good}
 use Rattle.theorems_reports.specs.Cases.{table, records, reader, output, ask, asks}
 use Rattle.theorems_reports.specs.Cases as cases
 use Rattle.theorems_handed.specs.Server.{AnyCall, start, call, Server, right, afterOf, answerTo, heardTo, Accepts, begins}
-use Rattle.theorems_handed.specs.Endings.{Ending, ongoing, closed, aborted, faulted, disconnected, restarted, endingOf}
+use Rattle.theorems_handed.specs.Endings.{Ending, ongoing, closed, aborted, faulted, disconnected, restarted, endingBy}
 use Rattle.theorems_handed.specs.Handed.{courseBy, Handed, handed, assembledFrom, assembled}
 use Rattle.theorems_handed.specs.Counted.{numbersIn, times, askedFrom, askedB}
 use Rattle.theorems_handed.specs.History.{notesBy, beginsB, coursesBy, notesIn}
@@ -29,14 +29,14 @@ pub record Result : Type 0 where
 abbrev pub all : List ℕ
 all = 1 ∷ 1 ∷ []
 
-abbrev pub again : Call
-again = recordAccess all output
+abbrev pub reportAgain : Call
+reportAgain = recordAccess all output
 
 abbrev pub abort : Call
 abort = recordAccess (3 ∷ 0 ∷ []) output
 
 unfoldable pub resultBy : Server → World → List AnyCall → Result
-unfolding cases.resultBy table records answerOf afterOf answerTo heardTo endingOf courseBy assembledFrom times askedFrom notesBy beginsB coursesBy notesIn
+unfolding cases.resultBy table records answerOf afterOf answerTo heardTo endingBy courseBy assembledFrom times askedFrom notesBy beginsB coursesBy notesIn
 resultBy s v ks =
     let u = begins s v all output in
     let c = courseBy s u ks in
@@ -45,7 +45,7 @@ resultBy s v ks =
       handed = assembled (c .notes);
       numbers = numbersIn c;
       heard = length (notesBy s u ks);
-      begun = length (coursesBy s v (call again ∷ ks));
+      begun = length (coursesBy s v (call reportAgain ∷ ks));
     }
 
 abbrev pub resultOf : List Call → Result
@@ -75,7 +75,7 @@ pub record Computed : Type 0 where
   pub disconnect-inside : resultOf (ask 21 ∷ ask 20 ∷ disconnect ∷ ask 20 ∷ []) ≡ result disconnected 1 19 2 1
   pub start-inside : resultBy right (world reader table) (call (ask 21) ∷ call (ask 20) ∷ start ∷ call (ask 20) ∷ []) ≡ result restarted 1 19 2 1
   -- a new report after it, whose segments are its own
-  pub abort-anew : resultOf (ask 21 ∷ ask 20 ∷ abort ∷ again ∷ ask 20 ∷ []) ≡ result aborted 1 19 3 2
+  pub abort-anew : resultOf (ask 21 ∷ ask 20 ∷ abort ∷ reportAgain ∷ ask 20 ∷ []) ≡ result aborted 1 19 3 2
   -- before the first notification
   pub abort-before : resultOf (abort ∷ ask 20 ∷ []) ≡ result aborted 0 0 0 1
   pub fault-before : resultOf (fault output ∷ ask 20 ∷ []) ≡ result faulted 0 0 0 1

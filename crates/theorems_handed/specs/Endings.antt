@@ -17,19 +17,19 @@ pub data Ending : Type 0 where
   restarted : Ending
 
 -- what a call that is answered with 0 makes of a report; "ongoing" if it ends none
-unfoldable pub endingOf : AnyCall → Ending
-endingOf start = restarted
-endingOf (call (seconds n)) = ongoing
-endingOf (call (switches a b d)) = ongoing
-endingOf (call disconnect) = disconnected
-endingOf (call (fault o)) = faulted
-endingOf (call (timeUpdate w o h)) = ongoing
-endingOf (call (recordAccess w o)) = pick (abortB (requestOf w)) aborted ongoing
-endingOf (call (notify p o)) = ongoing
+unfoldable pub endingBy : AnyCall → Ending
+endingBy start = restarted
+endingBy (call (seconds n)) = ongoing
+endingBy (call (switches a b d)) = ongoing
+endingBy (call disconnect) = disconnected
+endingBy (call (fault o)) = faulted
+endingBy (call (timeUpdate w o h)) = ongoing
+endingBy (call (recordAccess w o)) = pick (abortB (requestOf w)) aborted ongoing
+endingBy (call (notify p o)) = ongoing
 
 -- a refused call ends nothing
 abbrev pub endingIn : Server → World → AnyCall → Ending
-endingIn s v k = pick (doneB (s .answer v k)) (endingOf k) ongoing
+endingIn s v k = pick (doneB (s .answer v k)) (endingBy k) ongoing
 
 abbrev pub endedB : Ending → Bool
 endedB ongoing = false

@@ -1,6 +1,6 @@
 -- What a report hands over, from its notifications alone: the segments that came up to its ending, their bodies joined by first and last bits.
 use mathlib.Core.Path.{_≡_}
-use mathlib.Core.Bool.{Bool, true, false, not}
+use mathlib.Core.Bool.{Bool, true, not}
 use mathlib.Core.List.{List, [], _∷_, _++_, map}
 use Prim.Native.Nat.{ℕ, _≤_, _<_}
 use lib.Dec.{eqb}
@@ -47,19 +47,15 @@ pub record Handed : Type 0 where
 abbrev pub handed : List (List ℕ) → List ℕ → Bool → Handed
 handed w u f = record { whole = w; unfinished = u; fitting = f }
 
-abbrev pub noneB : List ℕ → Bool
-noneB [] = true
-noneB (b ∷ l) = false
+abbrev pub firstSetB : List ℕ → Bool
+firstSetB n = eqb (firstBit n) 1
 
-abbrev pub firstB : List ℕ → Bool
-firstB n = eqb (firstBit n) 1
-
-abbrev pub lastB : List ℕ → Bool
-lastB n = eqb (lastBit n) 1
+abbrev pub lastSetB : List ℕ → Bool
+lastSetB n = eqb (lastBit n) 1
 
 -- No body is empty, the counter is k, and the first bit is set exactly where a record begins: where nothing of one came yet.
 abbrev pub fitsB : ℕ → List ℕ → List ℕ → Bool
-fitsB k part n = both (filledB n) (both (eqb (counterIn n) k) (pick (noneB part) (firstB n) (not (firstB n))))
+fitsB k part n = both (filledB n) (both (eqb (counterIn n) k) (pick (eqb (length part) 0) (firstSetB n) (not (firstSetB n))))
 
 -- k is the next counter, "63 then 0"; `part` is what came of the record under way
 unfoldable pub assembledFrom : ℕ → List ℕ → List (List ℕ) → Handed
@@ -68,7 +64,7 @@ assembledFrom k part (n ∷ ns) =
     let here = part ++ body n in
     let last = assembledFrom (counterAfter k) [] ns in
     let more = assembledFrom (counterAfter k) here ns in
-    pick (lastB n)
+    pick (lastSetB n)
     (handed (here ∷ last .whole) (last .unfinished) (both (fitsB k part n) (last .fitting)))
     (handed (more .whole) (more .unfinished) (both (fitsB k part n) (more .fitting)))
 
@@ -90,7 +86,7 @@ pub record Complete (l : List Record) (h : Handed) : Type 0 where
   pub unfinished : h .unfinished ≡ []
 
 -- l is the list that was fixed when the report was accepted, c its course
-pub record HandsOver (l : List Record) (c : Course) : Type 0 where
+pub record HandedFrom (l : List Record) (c : Course) : Type 0 where
   -- however it ended, or before it did: "whole records that are the first so many of that list, with at most one unfinished record after them"
   pub beginning : Beginning l (assembled (c .notes))
   -- left to finish: "every matching held record"

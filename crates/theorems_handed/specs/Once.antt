@@ -10,14 +10,14 @@ use Rattle.rows.specs.Rows.{idleB}
 use Rattle.theorems_reports.specs.World.{World}
 use Rattle.theorems_reports.specs.Reach.{Good}
 use Rattle.theorems_handed.specs.Server.{AnyCall, Server, Accepts, begins}
-use Rattle.theorems_handed.specs.Handed.{courseBy, HandsOver}
+use Rattle.theorems_handed.specs.Handed.{courseBy, HandedFrom}
 use Rattle.theorems_handed.specs.Counted.{Counted}
 use Rattle.theorems_handed.specs.History.{notesBy, coursesBy, notesIn}
 
 -- Of every report that is accepted, whatever its operator and whatever calls come after it, payload sizes that change among them.
 pub record EveryRecordOnce (s : Server) : Type 0 where
   pub handed : (v : World) (w o : List ℕ) (f : Filter) (ks : List AnyCall) → Bytes (v .table) → Accepts s v w o f
-      → HandsOver (matching f (v .table)) (courseBy s (begins s v w o) ks)
+      → HandedFrom (matching f (v .table)) (courseBy s (begins s v w o) ks)
   pub counted : (v : World) (w o : List ℕ) (f : Filter) (ks : List AnyCall) → Bytes (v .table) → Accepts s v w o f
       → Counted f (v .table) (courseBy s (begins s v w o) ks)
   -- After its ending no segment of it comes: what else is heard is of reports that begin later.

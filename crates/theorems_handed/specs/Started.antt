@@ -9,7 +9,7 @@ use Rattle.table.specs.Table.{sizeB}
 use Rattle.table_look.specs.Matching.{matching}
 use Rattle.theorems_reports.specs.World.{World, newWorld}
 use Rattle.theorems_handed.specs.Server.{AnyCall, right, afterOf, Accepts, begins}
-use Rattle.theorems_handed.specs.Handed.{courseBy, HandsOver}
+use Rattle.theorems_handed.specs.Handed.{courseBy, HandedFrom}
 use Rattle.theorems_handed.specs.Counted.{Counted}
 use Rattle.theorems_handed.specs.History.{notesBy, coursesBy, notesIn}
 
@@ -20,7 +20,7 @@ ranOver v (k ∷ ks) = ranOver (afterOf v k) ks
 -- Theorem Reached once: a reader that is started in a buffer of a permitted size, then any calls; a report that it accepts; then any calls.
 pub record ReachedOnce (t : List ℕ) (before : List AnyCall) : Type 0 where
   pub handed : (w o : List ℕ) (f : Filter) (ks : List AnyCall) → Accepts right (ranOver (newWorld t) before) w o f
-      → HandsOver (matching f (ranOver (newWorld t) before .table)) (courseBy right (begins right (ranOver (newWorld t) before) w o) ks)
+      → HandedFrom (matching f (ranOver (newWorld t) before .table)) (courseBy right (begins right (ranOver (newWorld t) before) w o) ks)
   pub counted : (w o : List ℕ) (f : Filter) (ks : List AnyCall) → Accepts right (ranOver (newWorld t) before) w o f
       → Counted f (ranOver (newWorld t) before .table) (courseBy right (begins right (ranOver (newWorld t) before) w o) ks)
   pub after : (w o : List ℕ) (f : Filter) (ks : List AnyCall) → Accepts right (ranOver (newWorld t) before) w o f

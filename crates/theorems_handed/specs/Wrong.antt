@@ -18,8 +18,8 @@ use Rattle.theorems_reports.specs.World.{World, world, seconds, switches, disco
 use Rattle.theorems_reports.specs.Hearing.{Heard, nothing, segment, closing}
 use Rattle.theorems_reports.specs.Reports.{responseTo}
 use Rattle.theorems_handed.specs.Server.{AnyCall, start, call, Server, afterOf, answerTo, heardTo}
-use Rattle.theorems_handed.specs.Endings.{Ending, ongoing, closed, aborted, faulted, disconnected, restarted, endingOf}
-use Rattle.theorems_handed.specs.Handed.{lastB}
+use Rattle.theorems_handed.specs.Endings.{Ending, ongoing, closed, aborted, faulted, disconnected, restarted, endingBy}
+use Rattle.theorems_handed.specs.Handed.{lastSetB}
 use Rattle.theorems_handed.specs.Once.{EveryRecordOnce}
 
 -- the world with another report running
@@ -60,7 +60,7 @@ leavesOut =
 -- A segment that is not a record's last has the bytes of the oldest held record.
 abbrev oldestIn : List ℕ → Heard → Heard
 oldestIn t nothing = nothing
-oldestIn t (segment n) = segment (pick (lastB n) n (take 1 n ++ take (length n - 1) (firstBytes (held t))))
+oldestIn t (segment n) = segment (pick (lastSetB n) n (take 1 n ++ take (length n - 1) (firstBytes (held t))))
 oldestIn t (closing n) = closing n
 
 unfoldable pub mixes : Server
@@ -77,26 +77,26 @@ accessB (call (timeUpdate w o h)) = false
 accessB (call (recordAccess w o)) = true
 accessB (call (notify p o)) = false
 
-abbrev updateB : AnyCall → Bool
-updateB start = false
-updateB (call (seconds n)) = false
-updateB (call (switches a b d)) = false
-updateB (call disconnect) = false
-updateB (call (fault o)) = false
-updateB (call (timeUpdate w o h)) = true
-updateB (call (recordAccess w o)) = false
-updateB (call (notify p o)) = false
+abbrev setsB : AnyCall → Bool
+setsB start = false
+setsB (call (seconds n)) = false
+setsB (call (switches a b d)) = false
+setsB (call disconnect) = false
+setsB (call (fault o)) = false
+setsB (call (timeUpdate w o h)) = true
+setsB (call (recordAccess w o)) = false
+setsB (call (notify p o)) = false
 
-abbrev placeOf : Ending → ℕ
-placeOf ongoing = 0
-placeOf closed = 1
-placeOf aborted = 2
-placeOf faulted = 3
-placeOf disconnected = 4
-placeOf restarted = 5
+abbrev rankOf : Ending → ℕ
+rankOf ongoing = 0
+rankOf closed = 1
+rankOf aborted = 2
+rankOf faulted = 3
+rankOf disconnected = 4
+rankOf restarted = 5
 
 abbrev endsWithB : Ending → AnyCall → Bool
-endsWithB e k = eqb (placeOf (endingOf k)) (placeOf e)
+endsWithB e k = eqb (rankOf (endingBy k)) (rankOf e)
 
 -- Goes on with the old report inside a new one: a record access is answered as if none ran, and the one that runs stays.
 abbrev freed : World → AnyCall → World
@@ -125,8 +125,8 @@ goesOnAfter e =
 unfoldable pub takesIn : Server
 takesIn =
     record {
-      after = λ v k. pick (updateB k) (running (afterOf (running v Idle) k) (v .clock .running)) (afterOf v k);
-      answer = λ v k. answerTo (pick (updateB k) (running v Idle) v) k;
+      after = λ v k. pick (setsB k) (running (afterOf (running v Idle) k) (v .clock .running)) (afterOf v k);
+      answer = λ v k. answerTo (pick (setsB k) (running v Idle) v) k;
       response = responseTo;
       heard = heardTo;
     }

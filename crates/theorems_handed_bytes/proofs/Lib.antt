@@ -1,0 +1,4 @@
+pub mod EntryLaws
+pub mod CourseLaws
+pub mod OnceLaws
+pub mod CaseLaws

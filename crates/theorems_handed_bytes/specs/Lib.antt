@@ -1,0 +1,4 @@
+pub mod Endings
+pub mod Courses
+pub mod Once
+pub mod Cases
