@@ -26,7 +26,7 @@ pub record Result : Type 0 where
   pub heard : List (List ℕ)
   pub begun : ℕ
 
--- "report all stored records", asked for at b, and the calls after it
+-- a report that is asked for at b, and the calls after it
 unfoldable pub resultAt : ByteWorld → ByteCall → List EntryCall → Result
 unfolding heardOf enteredAt enterAt callOf endingBy assembledFrom entryBy heardEntry courseAt notesAt beginsAt coursesAt
 resultAt b ask ks =
@@ -59,8 +59,12 @@ reader h =
     runAt (startedAt (buffer 32) (buffer 144))
     (on ∷ set (h .writable) 800000000 ∷ seconds 100 ∷ set (h .writable) 800000070 ∷ [])
 
-abbrev records : List (List ℕ)
-records = updateFrom 0x19 0 800000000 631152000 ∷ update 1 800000070 800000100 ∷ []
+-- their bytes: record 0 and record 1
+abbrev first : List ℕ
+first = updateFrom 0x19 0 800000000 631152000
+
+abbrev second : List ℕ
+second = update 1 800000070 800000100
 
 -- an asking with the payload size p; the five that the report needs, the last of them for the closing response
 abbrev ask : ℕ → EntryCall
@@ -69,33 +73,33 @@ ask p = call (notify p output)
 abbrev asks : List EntryCall
 asks = ask 20 ∷ ask 244 ∷ ask 20 ∷ ask 20 ∷ ask 20 ∷ []
 
--- what they are answered: 19 and 5 bytes of each record
+-- the segments that they are answered with: of each record 19 bytes, then 5
 abbrev segments : List (List ℕ)
 segments =
-    (1 ∷ take 19 (updateFrom 0x19 0 800000000 631152000))
-    ∷ (6 ∷ drop 19 (updateFrom 0x19 0 800000000 631152000))
-    ∷ (9 ∷ take 19 (update 1 800000070 800000100))
-    ∷ (14 ∷ drop 19 (update 1 800000070 800000100))
+    (1 ∷ take 19 first)
+    ∷ (6 ∷ drop 19 first)
+    ∷ (9 ∷ take 19 second)
+    ∷ (14 ∷ drop 19 second)
     ∷ []
 
 abbrev resultOf : Writes → List EntryCall → Result
 resultOf h ks = resultAt (reader h) (all h) ks
 
--- ended with e after n segments: w records whole and of the next u bytes; then the segments l were heard, y reports were begun
+-- accepted; ended with e after n segments: w records whole, of the next one the bytes u; then the segments l were heard; y reports were begun
 abbrev result : Ending → ℕ → ℕ → List ℕ → List (List ℕ) → ℕ → Result
 result e n w u l y =
     record {
       accepted = pos 0;
       ending = e;
-      handed = handed (take w records) u true;
+      handed = handed (take w (first ∷ second ∷ [])) u true;
       numbers = take w (0 ∷ 1 ∷ []);
       heard = take n segments ++ l;
       begun = y;
     }
 
--- 19 bytes of record 1
+-- what of record 1 came with the third segment
 abbrev begin : List ℕ
-begin = take 19 (update 1 800000070 800000100)
+begin = take 19 second
 
 pub record Computed : Type 0 where
   pub writes : Writes
