@@ -24,7 +24,6 @@ use Rattle.clock.specs.declared.answers.Answer.the-variants.{Done, TableNotSoun
 use Rattle.rows.specs.Reply.{doneB}
 use Rattle.update.specs.Fault.{faultOf}
 use Rattle.clock.specs.Events.{disconnectOf}
-use Rattle.racp_request.specs.Request.{requestOf}
 use Rattle.racp_access.specs.Access.{accessOf}
 use Rattle.racp_notify.specs.Notify.{roomB, Notice, notifyOf}
 use Rattle.record.specs.Fields.{mostBytes}
@@ -43,7 +42,7 @@ use Rattle.racp_notify.proofs.ReplyLaws.{notify-replies}
 use Rattle.theorems_entry.proofs.PromiseLaws.{composes}
 use Rattle.theorems_reports.specs.World.{World, newWorld, Call, stepBy, runOf}
 use Rattle.theorems_reports.specs.World as calls
-use Rattle.theorems_reports.specs.Hearing.{Heard, nothing, segment, closing, sentIn, heardIn, heardBy, Hearing, onward, hearingBy, hearingOf, undisturbedB, abortB, calmB, allCalmB}
+use Rattle.theorems_reports.specs.Hearing.{Heard, nothing, segment, closing, sentIn, heardIn, heardBy, Hearing, onward, hearingBy, hearingOf, undisturbedB, calmB, allCalmB}
 use Rattle.theorems_reports.specs.Joined.{Got, add, joinAll}
 use Rattle.theorems_reports.specs.Reports.{Accepted, reportBegun, Hears, Exact, askingB, segments}
 use Rattle.theorems_reports.specs.Closing.{answerOf, allQuietB, heardB, unlessClosing, answeredIn, askedIn}
@@ -179,7 +178,7 @@ quiet-one v (fault o) l f q r =
 quiet-one v (dtcpWrite w o h) l f q r = r
 quiet-one v (racpWrite w o h) l f q r =
     let u = accessOf (v .clock) (v .table) w o in
-    both-yes (access-quiet (not (abortB (requestOf w))) (doneB (u .reply .answer)) (doneAt (calledAt (imageIn v) (racpWrite w o h) .result))
+    both-yes (access-quiet (calmB (calls.recordAccess w o)) (doneB (u .reply .answer)) (doneAt (calledAt (imageIn v) (racpWrite w o h) .result))
     (ap (λ (x : Called). doneAt (x .result)) (one-call v (racpWrite w o h) (f .good) (f .fits)) ∙ done-result (u .reply .answer) (u .reply .len)) q) ∙ r
   where
     access-quiet : (a b c : Bool) → c ≡ b → either (both a true) (not c) ≡ true → either a (not b) ≡ true

@@ -4,6 +4,7 @@ use mathlib.Core.Path.{_≡_, refl, _∙_, ap}
 use mathlib.Core.Bool.{Bool, true, false, not}
 use mathlib.Core.List.{List}
 use Prim.Native.Nat.{ℕ}
+use borrow.Author.Tests.{not-false}
 use lib.Dec.{leb}
 use lib.ListN.{length}
 use Rattle.octets.specs.Choice.{either}
@@ -33,8 +34,9 @@ use Rattle.theorems_reports.specs.Closing.{answerOf, quietB}
 use Rattle.theorems_reports.proofs.GoodLaws.{sound-size}
 use Rattle.theorems_reports.proofs.AccessLaws.{left-done, answered-passed}
 use Rattle.theorems_handed.specs.Server.{start, call, right, answerTo}
-use Rattle.theorems_handed.specs.Endings.{Ending, ongoing, closed, aborted, faulted, restarted, endingBy, endingIn, endedB}
-use Rattle.theorems_handed.specs.Endings as endings
+use Rattle.theorems_reports.specs.Endings.{Ending, ongoing, closed, aborted, faulted, restarted, endingOfRequest, endingBy, endedB}
+use Rattle.theorems_handed.specs.Endings.{endingIn}
+use Rattle.theorems_reports.specs.Endings as endings
 
 abbrev pub closedB : Ending → Bool
 closedB ongoing = false
@@ -49,38 +51,39 @@ pub record Cut (e : Ending) : Type 0 where
   pub ended : endedB e ≡ true
   pub unclosed : closedB e ≡ false
 
--- calls that are calm, and those that are not
-calm-ending : (a : Call) → calmB a ≡ true → endingBy (call a) ≡ ongoing
-unfolding calmB endingBy
-calm-ending (seconds n) h = refl
-calm-ending (switches x y z) h = refl
-calm-ending disconnect h = absurd (clash false h refl)
-calm-ending (fault o) h = absurd (clash false h refl)
-calm-ending (timeUpdate w o b) h = refl
-calm-ending (recordAccess w o) h = go (requestOf w) refl
+-- no call is a closing response
+call-open : (a : Call) → closedB (endingBy a) ≡ false
+unfolding endingBy
+call-open (seconds n) = refl
+call-open (switches x y z) = refl
+call-open disconnect = refl
+call-open (fault o) = refl
+call-open (timeUpdate w o b) = refl
+call-open (recordAccess w o) = go (requestOf w)
   where
-    go : (q : Request) → requestOf w ≡ q → endingBy (call (recordAccess w o)) ≡ ongoing
-    go (Report f) q = rw q
-    go (Number f) q = rw q
-    go Abort q = absurd (clash false (rw q at h) refl)
-    go (Refused k) q = rw q
-calm-ending (notify p o) h = refl
+    go : (q : Request) → closedB (endingOfRequest q) ≡ false
+    go (Report f) = refl
+    go (Number f) = refl
+    go Abort = refl
+    go (Refused k) = refl
+call-open (notify p o) = refl
 
-restless-ending : (a : Call) → calmB a ≡ false → Cut (endingBy (call a))
-unfolding calmB endingBy
-restless-ending (seconds n) h = absurd (clash true refl h)
-restless-ending (switches x y z) h = absurd (clash true refl h)
-restless-ending disconnect h = record { ended = refl; unclosed = refl }
-restless-ending (fault o) h = record { ended = refl; unclosed = refl }
-restless-ending (timeUpdate w o b) h = absurd (clash true refl h)
-restless-ending (recordAccess w o) h = go (requestOf w) refl
-  where
-    go : (q : Request) → requestOf w ≡ q → Cut (endingBy (call (recordAccess w o)))
-    go (Report f) q = absurd (clash true refl (rw q at h))
-    go (Number f) q = absurd (clash true refl (rw q at h))
-    go Abort q = rw q (record { ended = refl; unclosed = refl })
-    go (Refused k) q = absurd (clash true refl (rw q at h))
-restless-ending (notify p o) h = absurd (clash true refl h)
+-- a calm call is no ending, any other is one
+calm-ending : (e : Ending) → not (endedB e) ≡ true → e ≡ ongoing
+calm-ending ongoing h = refl
+calm-ending closed h = absurd (clash false h refl)
+calm-ending aborted h = absurd (clash false h refl)
+calm-ending faulted h = absurd (clash false h refl)
+calm-ending endings.disconnected h = absurd (clash false h refl)
+calm-ending restarted h = absurd (clash false h refl)
+
+call-calm : (a : Call) → calmB a ≡ true → endingBy a ≡ ongoing
+unfolding calmB
+call-calm a h = calm-ending (endingBy a) h
+
+call-restless : (a : Call) → calmB a ≡ false → Cut (endingBy a)
+unfolding calmB
+call-restless a h = record { ended = not-false (endedB (endingBy a)) h; unclosed = call-open a }
 
 -- a call that is not quiet is not calm, and is answered with 0
 loud-reads : (a b : Bool) → either a (not b) ≡ false → (a ≡ false) × (b ≡ true)
@@ -94,12 +97,12 @@ quiet-goes v a h = go (calmB a) refl (doneB (answerOf v a)) refl
   where
     go : (b : Bool) → calmB a ≡ b → (d : Bool) → doneB (answerOf v a) ≡ d → endingIn right v (call a) ≡ ongoing
     go b c false d = rw d
-    go true c true d = rw d (calm-ending a c)
+    go true c true d = rw d (call-calm a c)
     go false c true d = absurd (clash false (rw (c, d) at h) refl)
 
 pub loud-cuts : (v : World) (a : Call) → quietB v a ≡ false → Cut (endingIn right v (call a))
 unfolding answerTo
-loud-cuts v a h = let x = loud-reads (calmB a) (doneB (answerOf v a)) h in rw (x .1) (restless-ending a (x .0))
+loud-cuts v a h = let x = loud-reads (calmB a) (doneB (answerOf v a)) h in rw (x .1) (call-restless a (x .0))
 
 -- and leaves no report running
 module _ (c : Clock) (t : List ℕ) where
@@ -149,5 +152,5 @@ loud-idle v a ok h = let x = loud-reads (calmB a) (doneB (answerOf v a)) h in en
 
 -- a start is one too: a sound table has a permitted size
 pub start-restarts : (v : World) → soundB (v .table) ≡ true → endingIn right v start ≡ restarted
-unfolding answerTo endingBy newReaderOf startOf doneB numberOf
+unfolding answerTo newReaderOf startOf doneB numberOf
 start-restarts v h = rw (sound-size (v .table) h)

@@ -36,7 +36,8 @@ use Rattle.theorems_reports.proofs.StepLaws.{Step, still, asked, ended, step}
 use Rattle.theorems_reports.proofs.HeardLaws.{room-reads}
 use Rattle.theorems_reports.proofs.BeginLaws.{accepted}
 use Rattle.theorems_handed.specs.Server.{AnyCall, start, call, right, afterOf, answerTo, heardTo, Accepts, begins}
-use Rattle.theorems_handed.specs.Endings.{Ending, ongoing, closed, endingIn}
+use Rattle.theorems_reports.specs.Endings.{Ending, ongoing, closed}
+use Rattle.theorems_handed.specs.Endings.{endingIn}
 use Rattle.theorems_handed.specs.Handed.{Course, course, courseBy, Handed, handed, firstSetB, lastSetB, fitsB, assembledFrom, assembled, Beginning, Complete, HandedFrom}
 use Rattle.theorems_handed.proofs.EndLaws.{closedB, quiet-goes, loud-cuts, loud-idle, start-restarts}
 

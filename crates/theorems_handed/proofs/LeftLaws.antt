@@ -9,7 +9,7 @@ use Rattle.theorems_reports.specs.Hearing.{Heard, nothing, segment, closing, he
 use Rattle.theorems_reports.specs.Closing.{quietB, allQuietB}
 use Rattle.theorems_reports.proofs.ReportLaws.{quiet-calls, closing-report}
 use Rattle.theorems_handed.specs.Server.{call}
-use Rattle.theorems_handed.specs.Endings.{closed}
+use Rattle.theorems_reports.specs.Endings.{closed}
 use Rattle.theorems_handed.specs.Left.{LeftToFinish}
 use Rattle.theorems_handed.proofs.HandLaws.{courseOf, course-goes, course-segment, course-closes, is-accepted, begins-is}
 

@@ -14,7 +14,7 @@ use Rattle.theorems_reports.specs.World.{World, world, fault, disconnect, timeU
 use Rattle.theorems_reports.specs.Cases.{table, reader, output, ask, asks}
 use Rattle.theorems_reports.proofs.CaseLaws.{octetsB, octets-are, table-bytes}
 use Rattle.theorems_handed.specs.Server.{AnyCall, call, Server, Accepts, begins}
-use Rattle.theorems_handed.specs.Endings.{aborted, faulted, disconnected}
+use Rattle.theorems_reports.specs.Endings.{aborted, faulted, disconnected}
 use Rattle.theorems_handed.specs.Handed.{courseBy}
 use Rattle.theorems_handed.specs.History.{notesBy, coursesBy, notesIn}
 use Rattle.theorems_handed.specs.Once.{EveryRecordOnce}

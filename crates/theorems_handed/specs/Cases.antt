@@ -13,7 +13,7 @@ use Rattle.theorems_reports.specs.Reach.{Good}
 use Rattle.theorems_reports.specs.Cases.{table, records, reader, output, ask, asks}
 use Rattle.theorems_reports.specs.Cases as cases
 use Rattle.theorems_handed.specs.Server.{AnyCall, start, call, Server, right, afterOf, answerTo, heardTo, Accepts, begins}
-use Rattle.theorems_handed.specs.Endings.{Ending, ongoing, closed, aborted, faulted, disconnected, restarted, endingBy}
+use Rattle.theorems_reports.specs.Endings.{Ending, ongoing, closed, aborted, faulted, disconnected, restarted, endingBy}
 use Rattle.theorems_handed.specs.Handed.{courseBy, Handed, handed, assembledFrom, assembled}
 use Rattle.theorems_handed.specs.Counted.{numbersIn, times, askedFrom, askedB}
 use Rattle.theorems_handed.specs.History.{notesBy, beginsB, coursesBy, notesIn}

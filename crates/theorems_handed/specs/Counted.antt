@@ -12,7 +12,7 @@ use Rattle.record.specs.Fields.{sequenceOf}
 use Rattle.record.specs.declared.kinds.Record.{Record}
 use Rattle.table.specs.Table.{count, held, ageOf}
 use Rattle.racp_notify.specs.Notify.{bit}
-use Rattle.theorems_handed.specs.Endings.{closed}
+use Rattle.theorems_reports.specs.Endings.{closed}
 use Rattle.theorems_handed.specs.Handed.{Course, assembled}
 
 -- the numbers of the whole records handed over: each record's first two bytes

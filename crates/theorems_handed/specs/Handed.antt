@@ -14,7 +14,8 @@ use Rattle.joining.specs.Joining.{firstBit, lastBit, counterIn, body, filledB}
 use Rattle.theorems_reports.specs.World.{World}
 use Rattle.theorems_reports.specs.Hearing.{Heard, nothing, segment, closing}
 use Rattle.theorems_handed.specs.Server.{AnyCall, Server}
-use Rattle.theorems_handed.specs.Endings.{Ending, ongoing, closed, endingIn, endedB}
+use Rattle.theorems_reports.specs.Endings.{Ending, ongoing, closed, endedB}
+use Rattle.theorems_handed.specs.Endings.{endingIn}
 
 -- The course of a report: its segments up to its ending, or up to the last call.
 pub record Course : Type 0 where

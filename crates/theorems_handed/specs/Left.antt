@@ -11,7 +11,7 @@ use Rattle.theorems_reports.specs.World.{World, Call}
 use Rattle.theorems_reports.specs.Reports.{segments}
 use Rattle.theorems_reports.specs.Closing.{allQuietB, askedIn}
 use Rattle.theorems_handed.specs.Server.{call, right, Accepts, begins}
-use Rattle.theorems_handed.specs.Endings.{closed}
+use Rattle.theorems_reports.specs.Endings.{closed}
 use Rattle.theorems_handed.specs.Handed.{courseBy}
 
 -- Among any calls that end no report, asked for more often than the smallest payload size needs segments.

@@ -18,7 +18,8 @@ use Rattle.theorems_reports.specs.World.{World, world, seconds, switches, disco
 use Rattle.theorems_reports.specs.Hearing.{Heard, nothing, segment, closing}
 use Rattle.theorems_reports.specs.Reports.{responseTo}
 use Rattle.theorems_handed.specs.Server.{AnyCall, start, call, Server, afterOf, answerTo, heardTo}
-use Rattle.theorems_handed.specs.Endings.{Ending, ongoing, closed, aborted, faulted, disconnected, restarted, endingBy}
+use Rattle.theorems_reports.specs.Endings.{Ending, ongoing, closed, aborted, faulted, disconnected, restarted}
+use Rattle.theorems_handed.specs.Endings.{endingAny}
 use Rattle.theorems_handed.specs.Handed.{lastSetB}
 use Rattle.theorems_handed.specs.Once.{EveryRecordOnce}
 
@@ -96,7 +97,7 @@ rankOf disconnected = 4
 rankOf restarted = 5
 
 abbrev endsWithB : Ending → AnyCall → Bool
-endsWithB e k = eqb (rankOf (endingBy k)) (rankOf e)
+endsWithB e k = eqb (rankOf (endingAny k)) (rankOf e)
 
 -- Goes on with the old report inside a new one: a record access is answered as if none ran, and the one that runs stays.
 abbrev freed : World → AnyCall → World

@@ -31,7 +31,8 @@ use Rattle.theorems_reports.specs.Closing.{answerOf}
 use Rattle.theorems_reports.proofs.AccessLaws.{response-done}
 use Rattle.theorems_handed.specs.Server.{AnyCall, right, afterOf, answerTo, heardTo}
 use Rattle.theorems_handed.specs.Server as any
-use Rattle.theorems_handed.specs.Endings.{ongoing, endingBy, endingIn}
+use Rattle.theorems_reports.specs.Endings.{ongoing}
+use Rattle.theorems_handed.specs.Endings.{endingAny, endingIn}
 use Rattle.theorems_handed.specs.History.{asksReportB, beginsB}
 use Rattle.theorems_bytes.specs.World.{seconds, switches, disconnect, fault, dtcpWrite, racpWrite, notify, deviceTime, EntryCall, start, call, enteredAt, callOf, saidOf, imageIn, calledOf, entryOf, enteredOf}
 use Rattle.theorems_bytes.specs.Reports.{heardAt}
@@ -53,8 +54,8 @@ ended : (v : World) (k : EntryCall) (c : AnyCall) (n : ℕ) → Fit v → entryB
     → endingAt (imageIn v) k ≡ endingIn right v c
 ended v k c n f e r =
     ap (λ (l : List AnyCall). pick (doneAt (enteredAt (imageIn v) k .result)) (endingFirst l) ongoing) e
-    ∙ ap (λ (x : Called). pick (doneAt (x .result)) (endingBy c) ongoing) (entry-is v k (f .good) (f .fits))
-    ∙ ap (λ (b : Bool). pick b (endingBy c) ongoing) (ap doneAt r ∙ done-result (answerTo v c) n)
+    ∙ ap (λ (x : Called). pick (doneAt (x .result)) (endingAny c) ongoing) (entry-is v k (f .good) (f .fits))
+    ∙ ap (λ (b : Bool). pick b (endingAny c) ongoing) (ap doneAt r ∙ done-result (answerTo v c) n)
 
 -- start refuses no buffer of a permitted size
 started : (t : List ℕ) → sizeB (length t) ≡ true → newReaderOf t .event .answer ≡ Done

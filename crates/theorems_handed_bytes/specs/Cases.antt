@@ -8,7 +8,7 @@ use lib.IntN.{ℤ, pos}
 use lib.ListN.{length, take, drop}
 use Rattle.octets.specs.Parts.{Bytes}
 use Rattle.theorems_stamps.specs.Cases.{buffer, output, Writable}
-use Rattle.theorems_handed.specs.Endings.{Ending, closed, aborted, faulted, disconnected, restarted, endingBy}
+use Rattle.theorems_reports.specs.Endings.{Ending, closed, aborted, faulted, disconnected, restarted, endingBy}
 use Rattle.theorems_handed.specs.Handed.{Handed, handed, assembledFrom, assembled}
 use Rattle.theorems_handed.specs.Counted.{numbersIn}
 use Rattle.theorems_bytes.specs.World.{ByteWorld, ByteCall, seconds, disconnect, fault, racpWrite, notify, calledAt, stepAt, EntryCall, start, call, enteredAt, enterAt, runAt, startedAt, callOf}

@@ -4,7 +4,7 @@ use mathlib.Core.List.{List, [], _∷_}
 use Prim.Native.Nat.{ℕ}
 use Rattle.octets.specs.Choice.{both, pick}
 use Rattle.racp_request.specs.Request.{requestOf}
-use Rattle.theorems_handed.specs.Endings.{ongoing}
+use Rattle.theorems_reports.specs.Endings.{ongoing}
 use Rattle.theorems_handed.specs.Handed.{Course, course, until, further}
 use Rattle.theorems_handed.specs.History.{segmentThen, asksReportB}
 use Rattle.theorems_bytes.specs.World.{ByteWorld, seconds, switches, disconnect, fault, dtcpWrite, racpWrite, notify, deviceTime, calledAt, EntryCall, start, call, enterAt}

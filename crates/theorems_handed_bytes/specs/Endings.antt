@@ -5,7 +5,8 @@ use Rattle.octets.specs.Choice.{pick}
 use Rattle.theorems_reports.specs.Hearing.{Heard, nothing}
 use Rattle.theorems_handed.specs.Server.{AnyCall}
 use Rattle.theorems_handed.specs.Server as calls
-use Rattle.theorems_handed.specs.Endings.{Ending, ongoing, endingBy}
+use Rattle.theorems_reports.specs.Endings.{Ending, ongoing}
+use Rattle.theorems_handed.specs.Endings.{endingAny}
 use Rattle.theorems_bytes.specs.World.{ByteWorld, EntryCall, start, call, enteredAt, callOf}
 use Rattle.theorems_bytes.specs.Reports.{heardAt}
 use Rattle.theorems_bytes.specs.Stamps.{doneAt}
@@ -27,7 +28,7 @@ heardEntry b (call k) = heardAt b k
 -- how the call by value ends a report; where there is none, it goes on
 abbrev pub endingFirst : List AnyCall → Ending
 endingFirst [] = ongoing
-endingFirst (k ∷ ks) = endingBy k
+endingFirst (k ∷ ks) = endingAny k
 
 abbrev pub endingEntry : EntryCall → Ending
 endingEntry k = endingFirst (entryBy k)

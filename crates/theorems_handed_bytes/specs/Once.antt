@@ -11,7 +11,7 @@ use Rattle.table_look.specs.Matching.{matching}
 use Rattle.state_bytes.specs.State.{stateBytes}
 use Rattle.state_bytes.specs.JoiningState.{joiningBytes}
 use Rattle.theorems_reports.specs.Reports.{segments}
-use Rattle.theorems_handed.specs.Endings.{closed}
+use Rattle.theorems_reports.specs.Endings.{closed}
 use Rattle.theorems_handed.specs.Handed.{assembled, HandedFrom}
 use Rattle.theorems_handed.specs.Counted.{Counted}
 use Rattle.theorems_handed.specs.History.{notesIn}

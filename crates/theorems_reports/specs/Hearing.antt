@@ -7,10 +7,8 @@ use lib.ListN.{take}
 use Rattle.octets.specs.Choice.{both, pick}
 use Rattle.rows.specs.Reply.{doneB}
 use Rattle.rows.specs.Rows.{idleB}
-use Rattle.racp_request.specs.Request.{requestOf}
-use Rattle.racp_request.specs.declared.request.Request.{Request}
-use Rattle.racp_request.specs.declared.request.Request.the-variants.{Report, Number, Abort, Refused}
 use Rattle.racp_notify.specs.Notify.{Notice, notifyOf}
+use Rattle.theorems_reports.specs.Endings.{endingBy, endedB}
 use Rattle.theorems_reports.specs.World.{World, Call, seconds, switches, disconnect, fault, timeUpdate, recordAccess, notify, Notifying, stepBy, stepOf}
 
 pub data Heard : Type 0 where
@@ -73,20 +71,9 @@ undisturbedB v (k ∷ ks) =
     goesOn (heardOf v k) (not (idleB (stepOf v k .clock .running))) rest
 
 -- Calls that end no report, whatever comes of them: all but a disconnect, a fault and an Abort.
-abbrev pub abortB : Request → Bool
-abortB (Report f) = false
-abortB (Number f) = false
-abortB Abort = true
-abortB (Refused k) = false
-
 unfoldable pub calmB : Call → Bool
-calmB (seconds n) = true
-calmB (switches a b d) = true
-calmB disconnect = false
-calmB (fault o) = false
-calmB (timeUpdate w o h) = true
-calmB (recordAccess w o) = not (abortB (requestOf w))
-calmB (notify p o) = true
+unfolding endingBy
+calmB k = not (endedB (endingBy k))
 
 unfoldable pub allCalmB : List Call → Bool
 allCalmB [] = true

@@ -1,4 +1,5 @@
 pub mod World
+pub mod Endings
 pub mod Hearing
 pub mod Joined
 pub mod Open
