@@ -27,6 +27,8 @@
 //! | `world` | the buffers a caller lends, together |
 //! | `vectors` | test vectors kept as data, and their player |
 //! | `random` | adversarial call sequences over two readers |
+//! | `once` | the books of "Every record once", kept from a reader's answers |
+//! | `history` | made histories of one reader, with those books |
 //! | `concatenation` | made concatenations of tables, and a season program compared on them |
 //! | `mutants` | readers wrong in one number, season programs wrong in one step |
 //! | `archive` | the proved archive as a reader, behind a program |
@@ -39,6 +41,7 @@ pub mod carry;
 pub mod clock;
 pub mod concatenation;
 pub mod heard;
+pub mod history;
 pub mod image;
 pub mod joining;
 pub mod keep;
@@ -47,6 +50,7 @@ pub mod mutants;
 pub mod notify;
 pub mod numbers;
 pub mod octets;
+pub mod once;
 pub mod random;
 pub mod reader;
 pub mod record;
