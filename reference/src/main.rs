@@ -11,6 +11,7 @@
 
 use reference::archive::Archive;
 use reference::concatenation::Comparison;
+use reference::history::play;
 use reference::mutants::{spoiled, MUTANTS, WRONG_SEASONS};
 use reference::random::{compare, differing};
 use reference::reader::{Reader, Reference};
@@ -22,6 +23,8 @@ const USAGE: &str = "usage: reference [--archive COMMAND] [--calls N] [--seed S]
 /// How many mutants the archive is compared with, and how many calls each may take.
 const MUTANTS_TRIED: usize = 15;
 const MUTANT_CALLS: usize = 60_000;
+/// Of "Every record once" on the archive.
+const HISTORIES: u64 = 40;
 
 /// What the reference is compared with; the words of a command.
 enum Other {
@@ -84,14 +87,15 @@ fn command(words: &str) -> Vec<String> {
     words.split_whitespace().map(str::to_string).collect()
 }
 
-/// All three parts, whatever the first says.
+/// All four parts, whatever the first says.
 fn archive_passes(archive: &Archive, calls: usize, seed: u64) -> bool {
     let passed = [
         vectors_pass(archive),
         no_difference("the archive", archive, calls, seed),
         mutants_are_noticed(archive, seed),
+        hands_over_once(archive, seed),
     ];
-    passed == [true; 3]
+    passed == [true; 4]
 }
 
 fn vectors_pass(archive: &Archive) -> bool {
@@ -122,6 +126,20 @@ fn mutants_are_noticed(archive: &Archive, seed: u64) -> bool {
     let noticed = MUTANTS_TRIED - missed.len();
     println!("{noticed} of {MUTANTS_TRIED} mutants of the reference told from the archive");
     none_missed(&missed)
+}
+
+/// Change request E11, of the archive itself: what is wrong with a reader alike would be no difference.
+fn hands_over_once(archive: &Archive, seed: u64) -> bool {
+    let seeds = seed..seed + HISTORIES;
+    let found: Vec<_> = seeds.flat_map(|seed| play(archive, seed).complaints).collect();
+    for complaint in &found {
+        println!("{complaint:?}");
+    }
+    println!(
+        "every record once in {HISTORIES} histories on the archive: {} complaints",
+        found.len()
+    );
+    found.is_empty()
 }
 
 fn none_missed(missed: &[&str]) -> bool {
