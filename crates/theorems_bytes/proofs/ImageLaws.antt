@@ -189,7 +189,7 @@ module _ (s t : List ℕ) (hs : length s ≡ stateBytes) (ht : sizeB (length t) 
       ∙ ap (λ (b : ByteWorld). called (pos 0) (b .state) (b .table) []) start-is
 
 -- a good world's table has a permitted size
-pub good-size : (v : World) → Good v → sizeB (length (v .table)) ≡ true
+good-size : (v : World) → Good v → sizeB (length (v .table)) ≡ true
 good-size v g = sound-size (v .table) (g .sound)
 
 pub new-fit : (t : List ℕ) → sizeB (length t) ≡ true → Fit (newWorld t)

@@ -28,6 +28,7 @@ use Rattle.theorems_reports.specs.World as calls
 use Rattle.theorems_reports.specs.Hearing.{nothing, heardBy}
 use Rattle.theorems_reports.specs.Reports.{responseTo}
 use Rattle.theorems_reports.specs.Closing.{answerOf}
+use Rattle.theorems_reports.proofs.GoodLaws.{sound-size}
 use Rattle.theorems_reports.proofs.AccessLaws.{response-done}
 use Rattle.theorems_handed.specs.Server.{AnyCall, right, afterOf, answerTo, heardTo}
 use Rattle.theorems_handed.specs.Server as any
@@ -38,7 +39,7 @@ use Rattle.theorems_bytes.specs.World.{seconds, switches, disconnect, fault, dt
 use Rattle.theorems_bytes.specs.Reports.{heardAt}
 use Rattle.theorems_bytes.specs.Stamps.{doneAt, zeroAt}
 use Rattle.theorems_bytes.proofs.StampLaws.{done-result}
-use Rattle.theorems_bytes.proofs.ImageLaws.{one-call, Fit, good-size, entry-is}
+use Rattle.theorems_bytes.proofs.ImageLaws.{one-call, Fit, entry-is}
 use Rattle.theorems_bytes.proofs.ReportLaws.{notify-heard}
 use Rattle.theorems_handed_bytes.specs.Endings.{entryBy, heardEntry, endingFirst, endingAt}
 use Rattle.theorems_handed_bytes.specs.Courses.{beginsAt}
@@ -64,7 +65,7 @@ started t h = rw h
 
 start-ended : (v : World) → Fit v → endingAt (imageIn v) start ≡ endingIn right v any.start
 unfolding entryBy enteredOf answerTo resultOf doneB numberOf
-start-ended v f = ended v start any.start 0 f refl (ap (λ (a : Answer). resultOf a 0) (sym (started (v .table) (good-size v (f .good)))))
+start-ended v f = ended v start any.start 0 f refl (ap (λ (a : Answer). resultOf a 0) (sym (started (v .table) (sound-size (v .table) (f .good .sound)))))
 
 -- a call that reads ends nothing, whatever its result
 none-ended : (b : Bool) → pick b ongoing ongoing ≡ ongoing
