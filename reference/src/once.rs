@@ -208,7 +208,7 @@ fn number(record: &[u8]) -> u16 {
 }
 
 /// The held records, oldest first.
-fn held(table: &[u8]) -> Vec<Vec<u8>> {
+pub fn held(table: &[u8]) -> Vec<Vec<u8>> {
     let slots = usize::from(u16_at(table, 0));
     let oldest = (u32_at(table, 4) as usize - 16) / 64;
     let slot = |age: usize| &table[16 + 64 * ((oldest + age) % slots)..][..64];

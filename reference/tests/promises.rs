@@ -2,19 +2,11 @@
 //! report hands over, what a copy kept of it is, and what a carried stamp tells.
 
 use reference::octets::{u16_at, u32_at};
+use reference::once::held;
 use reference::random::{planned_table, Plan, Random};
 use reference::reader::{Reader, Reference};
 
 const SLOTS: [usize; 5] = [1, 2, 3, 5, 40];
-
-/// The held records, oldest first.
-fn held(table: &[u8]) -> Vec<Vec<u8>> {
-    let slots = usize::from(u16_at(table, 0));
-    let oldest = (u32_at(table, 4) as usize - 16) / 64;
-    let slot = |age: usize| &table[16 + 64 * ((oldest + age) % slots)..][..64];
-    let record = |age: usize| slot(age)[1..1 + usize::from(slot(age)[0])].to_vec();
-    (0..usize::from(u16_at(table, 2))).map(record).collect()
-}
 
 /// A filter as RACP bytes, and the held records it means: those from one place to another, where
 /// the place of a number is that of the record that has it.
