@@ -1,5 +1,5 @@
 //! Every record once: the books find nothing wrong with the reference, whose histories reach every
-//! way in which a report can end, and find with each of eight wrong readers what is wrong with it.
+//! way in which a report can end, and find with each of nine wrong readers what is wrong with it.
 
 use reference::history::play;
 use reference::mutants::{spoiled, MUTANTS};
@@ -139,10 +139,12 @@ enum Wrong {
     GoesOnAfter(Ending),
     /// Takes a time update while a report runs, and hands the new record over too.
     TakesIn,
+    /// After the first segment no notification is answered any more.
+    Stops,
 }
 
 /// Each with all that is found wrong with it, and no two with the same.
-fn wrong_readers() -> [(Wrong, Vec<Complaint>); 8] {
+fn wrong_readers() -> [(Wrong, Vec<Complaint>); 9] {
     use Complaint::*;
     let after_any = [None, Some(Ending::Closed)].into_iter().chain(CUT_SHORT.map(Some));
     let goes_on = |ending| (Wrong::GoesOnAfter(ending), vec![WhileNoneRuns(Some(ending))]);
@@ -158,6 +160,7 @@ fn wrong_readers() -> [(Wrong, Vec<Complaint>); 8] {
         goes_on(Ending::Disconnected),
         // Where the new record overwrites the one being sent, nothing more comes.
         (Wrong::TakesIn, vec![Unanswered, Beyond]),
+        (Wrong::Stops, vec![Unanswered]),
     ]
 }
 
@@ -169,7 +172,9 @@ struct WrongReader {
 
 /// Where a state has its report: all zero if none runs.
 const REPORT: std::ops::Range<usize> = 17..28;
-/// Of that, the record that is left to send, and its number.
+/// Of that, the counter of the next segment.
+const COUNTER: usize = 23;
+/// And the record that is left to send, and its number.
 const LEFT: std::ops::Range<usize> = 24..28;
 const LEFT_NUMBER: usize = 25;
 
@@ -214,6 +219,7 @@ impl Reader for WrongReader {
                 }
                 answer
             }
+            Wrong::Stops if state[COUNTER] > 0 => -8,
             _ => self.right.notify(state, table, p, out),
         }
     }

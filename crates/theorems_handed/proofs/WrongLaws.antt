@@ -11,13 +11,16 @@ use Rattle.octets.specs.Parts.{Bytes}
 use Rattle.octets.proofs.Tests.{clash}
 use Rattle.filter.specs.declared.filter.Filter.the-variants.{All}
 use Rattle.theorems_reports.specs.World.{World, world, fault, disconnect, timeUpdate}
+use Rattle.racp_notify.specs.Notify.{roomB}
+use Rattle.theorems_reports.specs.Reports.{askingB, segments}
 use Rattle.theorems_reports.specs.Cases.{table, reader, output, ask, asks}
 use Rattle.theorems_reports.proofs.CaseLaws.{octetsB, octets-are, table-bytes}
 use Rattle.theorems_handed.specs.Server.{AnyCall, call, Server, Accepts, begins}
-use Rattle.theorems_reports.specs.Endings.{aborted, faulted, disconnected}
+use Rattle.theorems_reports.specs.Endings.{aborted, faulted, disconnected, endedB}
 use Rattle.theorems_handed.specs.Handed.{courseBy}
 use Rattle.theorems_handed.specs.History.{notesBy, coursesBy, notesIn}
 use Rattle.theorems_handed.specs.Once.{EveryRecordOnce}
+use Rattle.theorems_handed.specs.Left.{quietBy, askedBy, LeftToFinish}
 use Rattle.theorems_handed.specs.Cases.{all, abort, resultBy}
 use Rattle.theorems_handed.specs.Wrong as wrong
 use Rattle.theorems_handed.specs.Wrong.{ShutOut}
@@ -92,6 +95,14 @@ takes-in h =
     let x = h .handed (world reader table) all output All ks table-bytes (record { asked = refl; done = refl; silent = refl }) in
     let e : 4 ≤ 3 = x .beginning .held in omega arith
 
+-- asked for seven times, with six segments at P 20, and never closed
+stops : LeftToFinish wrong.stops → ⊥
+unfolding resultBy wrong.stops quietBy askedBy segments askingB roomB
+stops h =
+    let ks = ask 20 ∷ ask 20 ∷ ask 20 ∷ ask 20 ∷ ask 20 ∷ ask 20 ∷ ask 20 ∷ [] in
+    let e = h (world reader table) all output All ks table-bytes (record { asked = refl; done = refl; silent = refl }) refl (omega arith) in
+    clash _ (ap endedB e) refl
+
 pub shut-out : ShutOut
 shut-out =
     record {
@@ -103,4 +114,5 @@ shut-out =
       after-fault = after-fault;
       after-disconnect = after-disconnect;
       takes-in = takes-in;
+      stops = stops;
     }

@@ -1,13 +1,14 @@
--- Wrong servers that Every record once shuts out: each is the right one but for what is said of it.
+-- Wrong servers that Every record once and Left to finish shut out: each is the right one but for what is said of it.
 use mathlib.Core.Bool.{Bool, true, false, not}
 use mathlib.Core.List.{List, _++_}
 use Prim.Native.Nat.{ℕ, _+_, _-_}
-use lib.Dec.{eqb}
+use lib.Dec.{ltb, eqb}
 use lib.ListN.{length, take}
 use Rattle.octets.specs.Choice.{both, pick}
 use Rattle.filter.specs.declared.filter.Filter.the-variants.{All}
 use Rattle.table.specs.Table.{count, held, ageOf}
 use Rattle.clock.specs.State.{withRunning}
+use Rattle.clock.specs.declared.answers.Answer.the-variants.{NothingRunning}
 use Rattle.clock.specs.declared.state.Left.{Left}
 use Rattle.clock.specs.declared.state.Left.the-variants.{Nothing, From}
 use Rattle.clock.specs.declared.state.Running.{Running}
@@ -17,11 +18,13 @@ use Rattle.racp_access.specs.Report.{report, firstBytes, leftFrom}
 use Rattle.theorems_reports.specs.World.{World, world, seconds, switches, disconnect, fault, timeUpdate, recordAccess, notify}
 use Rattle.theorems_reports.specs.Hearing.{Heard, nothing, segment, closing}
 use Rattle.theorems_reports.specs.Reports.{responseTo}
+use Rattle.theorems_reports.specs.Closing.{heardB}
 use Rattle.theorems_handed.specs.Server.{AnyCall, start, call, Server, afterOf, answerTo, heardTo}
 use Rattle.theorems_reports.specs.Endings.{Ending, ongoing, closed, aborted, faulted, disconnected, restarted}
 use Rattle.theorems_handed.specs.Endings.{endingAny}
 use Rattle.theorems_handed.specs.Handed.{lastSetB}
 use Rattle.theorems_handed.specs.Once.{EveryRecordOnce}
+use Rattle.theorems_handed.specs.Left.{LeftToFinish}
 
 -- the world with another report running
 abbrev running : World → Running → World
@@ -132,6 +135,23 @@ takesIn =
       heard = heardTo;
     }
 
+-- Stops after the first segment: no notification is answered any more.
+abbrev begunB : Running → Bool
+begunB Idle = false
+begunB (Reporting r) = ltb 0 (r .counter)
+
+abbrev silencedB : World → AnyCall → Bool
+silencedB v k = both (begunB (v .clock .running)) (heardB (heardTo v k))
+
+unfoldable pub stops : Server
+stops =
+    record {
+      after = λ v k. pick (silencedB v k) v (afterOf v k);
+      answer = λ v k. pick (silencedB v k) NothingRunning (answerTo v k);
+      response = responseTo;
+      heard = λ v k. pick (silencedB v k) nothing (heardTo v k);
+    }
+
 pub record ShutOut : Type 0 where
   pub repeats : EveryRecordOnce repeats → ⊥
   pub leaves-out : EveryRecordOnce leavesOut → ⊥
@@ -141,3 +161,4 @@ pub record ShutOut : Type 0 where
   pub after-fault : EveryRecordOnce (goesOnAfter faulted) → ⊥
   pub after-disconnect : EveryRecordOnce (goesOnAfter disconnected) → ⊥
   pub takes-in : EveryRecordOnce takesIn → ⊥
+  pub stops : LeftToFinish stops → ⊥

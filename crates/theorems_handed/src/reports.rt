@@ -25,7 +25,7 @@ pub fn every_record_joined()
 
 // A report that is asked for often enough, among any calls that end none, is closed.
 pub fn left_to_finish()
-    ensures { λ _. ⌜ LeftToFinish ⌝ }
+    ensures { λ _. ⌜ LeftToFinish right ⌝ }
 {}
 
 // From start, over any calls.
@@ -38,7 +38,7 @@ pub fn computed()
     ensures { λ _. ⌜ Computed ⌝ }
 {}
 
-// Wrong servers, of each of which the theorem is false.
+// Wrong servers, of each of which one of these theorems is false.
 pub fn shut_out()
     ensures { λ _. ⌜ ShutOut ⌝ }
 {}

@@ -25,7 +25,7 @@ use Rattle.theorems_handed.specs.History.{notesBy, coursesBy, notesIn}
 use Rattle.theorems_handed.proofs.HistoryLaws.{new-idle}
 use Rattle.theorems_handed.proofs.OnceLaws.{every-record-once}
 use Rattle.theorems_handed.proofs.ReadLaws.{every-record-joined}
-use Rattle.theorems_handed.proofs.LeftLaws.{left-to-finish}
+use Rattle.theorems_handed.proofs.LeftLaws.{finishes}
 use Rattle.theorems_bytes.specs.World.{ByteWorld, ByteCall, racpWrite, stepAt, EntryCall, call, callOf, callsOf, imageIn, historyOf}
 use Rattle.theorems_bytes.specs.Reports.{gotAt, joinAllAt, shownOf, AcceptedAt, allQuietAt, askedAt}
 use Rattle.theorems_bytes.proofs.ImageLaws.{Fit, new-fit, reached-fit, reached, images}
@@ -105,7 +105,7 @@ once v w o hw f x h =
           (joined-is e ns (take (length (assembled ns .whole)) (matching f (v .table))) (every-record-joined v w o f (entriesOf ks) t a));
       finishes = λ ks q n.
           ap (λ (c : Course). c .ending) (course-after v w o hw x (map call ks) ∙ ap (courseBy right (begins right v w o)) (entries-calls ks))
-          ∙ left-to-finish v w o f (callsOf ks) t a (quiet-after v w o hw x ks q)
+          ∙ finishes v w o f (callsOf ks) t a (quiet-after v w o hw x ks q)
           (subst (λ l. segments 19 (matching f (v .table)) < length l) (asked-after v w o hw x ks) n);
     }
 
