@@ -102,7 +102,8 @@ rankOf restarted = 5
 abbrev endsWithB : Ending → AnyCall → Bool
 endsWithB e k = eqb (rankOf (endingAny k)) (rankOf e)
 
--- Goes on with the old report inside a new one: a record access is answered as if none ran, and the one that runs stays.
+-- Goes on with the old report inside a new one: an Abort is answered as it should be, any other record access as if no report ran, and the one that
+-- runs stays.
 abbrev freed : World → AnyCall → World
 freed v k = pick (endsWithB aborted k) v (running v Idle)
 
