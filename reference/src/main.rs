@@ -128,7 +128,7 @@ fn mutants_are_noticed(archive: &Archive, seed: u64) -> bool {
     none_missed(&missed)
 }
 
-/// Change request E11, of the archive itself: what is wrong with a reader alike would be no difference.
+/// Change request E11, of the archive itself: what both had wrong alike would be no difference.
 fn hands_over_once(archive: &Archive, seed: u64) -> bool {
     let seeds = seed..seed + HISTORIES;
     let found: Vec<_> = seeds.flat_map(|seed| play(archive, seed).complaints).collect();

@@ -67,8 +67,8 @@ pub record Computed : Type 0 where
   pub accepts : Accepts right (world reader table) all output All
   -- left to finish, with payload sizes that change at every asking: all; asked on, and nothing more comes
   pub finished : resultOf (asks ++ (ask 20 ∷ [])) ≡ result closed 3 0 5 1
-  -- an Abort without operator is refused, and ends nothing
-  pub refused-abort : resultOf (ask 21 ∷ recordAccess (3 ∷ []) output ∷ seconds 5 ∷ ask 20 ∷ []) ≡ result ongoing 1 19 2 1
+  -- an Abort without operator is answered 0x03, one without room for its response is refused: they end nothing
+  pub broken-abort : resultOf (ask 21 ∷ recordAccess (3 ∷ []) output ∷ recordAccess (3 ∷ 0 ∷ []) [] ∷ seconds 5 ∷ ask 20 ∷ []) ≡ result ongoing 1 19 2 1
   -- ended inside the second record, and asked on
   pub abort-inside : resultOf (ask 21 ∷ ask 20 ∷ abort ∷ ask 20 ∷ []) ≡ result aborted 1 19 2 1
   pub fault-inside : resultOf (ask 21 ∷ ask 20 ∷ fault output ∷ ask 20 ∷ []) ≡ result faulted 1 19 2 1

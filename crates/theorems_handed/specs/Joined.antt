@@ -21,8 +21,8 @@ abbrev pub Short : List (List ℕ) → Type 0
 Short [] = Unit {0}
 Short (b ∷ l) = (length b ≤ mostBytes) × Short l
 
--- Joining is assembling: of any segments that fit together and make no record longer than 45 bytes none is refused, and what the tablet reads are
--- the whole records.
+-- Joining is assembling: of any segments that fit together, make no record longer than 45 bytes and leave fewer than 45 unfinished, none is
+-- refused, and what the tablet reads are the whole records.
 abbrev pub JoiningAssembles : Type 0
 JoiningAssembles = (ns : List (List ℕ)) → assembled ns .fitting ≡ true → Short (assembled ns .whole) → length (assembled ns .unfinished) < mostBytes
     → joinAll emptyJoining ns ≡ got (map readOf (assembled ns .whole)) true

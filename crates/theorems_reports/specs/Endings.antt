@@ -14,7 +14,7 @@ pub data Ending : Type 0 where
   disconnected : Ending
   restarted : Ending
 
--- an Abort with an operator or operand is none
+-- an Abort that is answered 0x03 or 0x05, for its operator or operand, is none
 abbrev pub endingOfRequest : Request → Ending
 endingOfRequest (Report f) = ongoing
 endingOfRequest (Number f) = ongoing
