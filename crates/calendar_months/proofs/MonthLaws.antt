@@ -10,7 +10,7 @@ use lib.Dec.{eqb}
 use lib.ListN.{length, getD}
 use Rattle.octets.specs.Choice.{both, pick}
 use Rattle.octets.proofs.Tests.{both-reads}
-use Rattle.calendar_months.specs.Months.{leapB, thirtyB, daysIn, monthLength, daysBefore, startsFrom, starts}
+use Rattle.calendar_months.specs.Months.{leapB, thirtyB, daysIn, monthLength, daysBefore, startsFrom, monthStarts}
 
 -- a table that begins with month k
 from-length : (n k days : ℕ) → length (startsFrom n k days) ≡ suc n
@@ -25,12 +25,12 @@ from-at zero k (suc j) h = absurd (not-suc-le-zero h)
 from-at (suc n) k zero h = ap daysBefore (sym (add-zero k))
 from-at (suc n) k (suc j) h = from-at n (suc k) j (le-of-suc-le-suc h) ∙ ap daysBefore (suc-add k j ∙ sym (add-suc k j))
 
-pub starts-length : length starts ≡ 1201
-unfolding starts
+pub starts-length : length monthStarts ≡ 1201
+unfolding monthStarts
 starts-length = from-length 1200 0 0
 
-pub starts-at : (k : ℕ) → k ≤ 1200 → getD starts k 0 ≡ daysBefore k
-unfolding starts daysBefore
+pub starts-at : (k : ℕ) → k ≤ 1200 → getD monthStarts k 0 ≡ daysBefore k
+unfolding monthStarts daysBefore
 starts-at k h = from-at 1200 0 k h ∙ ap daysBefore (zero-add k)
 
 -- a test of a month's number and the days before it, from month k on through a table
@@ -47,8 +47,8 @@ from-every f (suc n) k e zero h = rw add-zero (both-reads (f k (daysBefore k)) _
 from-every f (suc n) k e (suc j) h =
     ap (λ (m : ℕ). f m (daysBefore m)) (add-suc k j ∙ sym (suc-add k j)) ∙ from-every f n (suc k) (both-reads (f k (daysBefore k)) _ e .1) j (le-of-suc-le-suc h)
 
-pub every-start : (f : ℕ → ℕ → Bool) → everyB f 0 starts ≡ true → (k : ℕ) → k ≤ 1200 → f k (daysBefore k) ≡ true
-unfolding starts daysBefore
+pub every-start : (f : ℕ → ℕ → Bool) → everyB f 0 monthStarts ≡ true → (k : ℕ) → k ≤ 1200 → f k (daysBefore k) ≡ true
+unfolding monthStarts daysBefore
 every-start f e k h = ap (λ (m : ℕ). f m (daysBefore m)) (sym (zero-add k)) ∙ from-every f 1200 0 e k h
 
 -- a month has 28 to 31 days

@@ -36,8 +36,8 @@ startsFrom zero k days = days ∷ []
 startsFrom (suc n) k days = days ∷ startsFrom n (suc k) (days + monthLength k)
 
 -- the whole table: 1,200 months, and the end of the last
-unfoldable pub starts : List ℕ
-starts = startsFrom 1200 0 0
+unfoldable pub monthStarts : List ℕ
+monthStarts = startsFrom 1200 0 0
 
 -- Theorem Table rule: "each step is the month's true length"
 pub record TableRule (t : List ℕ) : Type 0 where

@@ -1,0 +1,86 @@
+use borrow.Author.Needs.{needs}
+use native.Mathlib.Omega.{arith}
+use Rattle.calendar_dates.proofs.dates.seconds_of_date.Statement.{statement}
+use Rattle.calendar_dates.proofs.dates.seconds_of_date.Tie as tie
+use Rattle.calendar_dates.proofs.dates.seconds_of_date.Reads as reads
+use Rattle.calendar_dates.proofs.dates.seconds_of_date.Lts as lts
+use Rattle.calendar_dates.proofs.dates.exists.Reads as exists-reads
+use Rattle.calendar_dates.proofs.dates.month_number.Reads as month-number-reads
+use Rattle.calendar_months.proofs.months.days_before.Reads as days-before-reads
+
+exists-requires : tie.Need-exists-requires
+exists-requires c κs = search needs
+
+returns : tie.Need-returns
+returns c = search needs
+
+month-number-requires : tie.Need-month-number-requires
+month-number-requires c κs = search needs
+
+days-before-requires : tie.Need-days-before-requires
+days-before-requires c κs = search needs
+
+cast-days : tie.Need-cast-days
+cast-days c = search needs
+
+sub-days : tie.Need-sub-days
+sub-days c = search needs
+
+cast-days-2 : tie.Need-cast-days-2
+cast-days-2 c = search needs
+
+add-days : tie.Need-add-days
+add-days c = search needs
+
+mul-t8 : tie.Need-mul-t8
+mul-t8 c = search needs
+
+cast-t10 : tie.Need-cast-t10
+cast-t10 c = search needs
+
+mul-t11 : tie.Need-mul-t11
+mul-t11 c = search needs
+
+cast-t12 : tie.Need-cast-t12
+cast-t12 c = search needs
+
+mul-t13 : tie.Need-mul-t13
+mul-t13 c = search needs
+
+cast-t14 : tie.Need-cast-t14
+cast-t14 c = search needs
+
+add-t15 : tie.Need-add-t15
+add-t15 c = search needs
+
+add-t16 : tie.Need-add-t16
+add-t16 c = search needs
+
+add-t17 : tie.Need-add-t17
+add-t17 c = search needs
+
+returns-2 : tie.Need-returns-2
+returns-2 c = search needs
+
+pub seconds-of-date-spec : {M : Type 1} → statement M
+seconds-of-date-spec =
+    tie.close
+    (tie.spec
+    exists-requires
+    returns
+    month-number-requires
+    days-before-requires
+    cast-days
+    sub-days
+    cast-days-2
+    add-days
+    mul-t8
+    cast-t10
+    mul-t11
+    cast-t12
+    mul-t13
+    cast-t14
+    add-t15
+    add-t16
+    add-t17
+    returns-2)

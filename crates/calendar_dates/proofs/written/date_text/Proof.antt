@@ -1,0 +1,93 @@
+use borrow.Author.Needs.{needs}
+use native.Mathlib.Omega.{arith}
+use Rattle.calendar_dates.proofs.written.date_text.Statement.{statement}
+use Rattle.calendar_dates.proofs.written.date_text.Tie as tie
+use Rattle.calendar_dates.proofs.written.date_text.Reads as reads
+use Rattle.calendar_dates.proofs.written.date_text.Lts as lts
+use Rattle.calendar_dates.proofs.written.ones.Reads as ones-reads
+use Rattle.calendar_dates.proofs.written.tens.Reads as tens-reads
+
+cast-month : tie.Need-cast-month
+cast-month c = search needs
+
+cast-day : tie.Need-cast-day
+cast-day c = search needs
+
+cast-hour : tie.Need-cast-hour
+cast-hour c = search needs
+
+cast-minute : tie.Need-cast-minute
+cast-minute c = search needs
+
+cast-second : tie.Need-cast-second
+cast-second c = search needs
+
+tens-requires : tie.Need-tens-requires
+tens-requires c κs = search needs
+
+ones-requires : tie.Need-ones-requires
+ones-requires c κs = search needs
+
+tens-requires-2 : tie.Need-tens-requires-2
+tens-requires-2 c κs = search needs
+
+ones-requires-2 : tie.Need-ones-requires-2
+ones-requires-2 c κs = search needs
+
+tens-requires-3 : tie.Need-tens-requires-3
+tens-requires-3 c κs = search needs
+
+ones-requires-3 : tie.Need-ones-requires-3
+ones-requires-3 c κs = search needs
+
+tens-requires-4 : tie.Need-tens-requires-4
+tens-requires-4 c κs = search needs
+
+ones-requires-4 : tie.Need-ones-requires-4
+ones-requires-4 c κs = search needs
+
+tens-requires-5 : tie.Need-tens-requires-5
+tens-requires-5 c κs = search needs
+
+ones-requires-5 : tie.Need-ones-requires-5
+ones-requires-5 c κs = search needs
+
+tens-requires-6 : tie.Need-tens-requires-6
+tens-requires-6 c κs = search needs
+
+ones-requires-6 : tie.Need-ones-requires-6
+ones-requires-6 c κs = search needs
+
+tens-requires-7 : tie.Need-tens-requires-7
+tens-requires-7 c κs = search needs
+
+ones-requires-7 : tie.Need-ones-requires-7
+ones-requires-7 c κs = search needs
+
+returns : tie.Need-returns
+returns c = search needs
+
+pub date-text-spec : {M : Type 1} → statement M
+date-text-spec =
+    tie.close
+    (tie.spec
+    cast-month
+    cast-day
+    cast-hour
+    cast-minute
+    cast-second
+    tens-requires
+    ones-requires
+    tens-requires-2
+    ones-requires-2
+    tens-requires-3
+    ones-requires-3
+    tens-requires-4
+    ones-requires-4
+    tens-requires-5
+    ones-requires-5
+    tens-requires-6
+    ones-requires-6
+    tens-requires-7
+    ones-requires-7
+    returns)
