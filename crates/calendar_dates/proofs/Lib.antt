@@ -1,0 +1,3 @@
+pub mod DayLaws
+pub mod DateLaws
+pub mod LostLaws

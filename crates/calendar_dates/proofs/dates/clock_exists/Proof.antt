@@ -1,9 +1,11 @@
+-- The three tests in a row.
+-- Assumes nothing.
+use mathlib.Core.Path.{_∙_}
+use Rattle.calendar_dates.specs.Dates.{clockB}
 use borrow.Author.Needs.{needs}
 use native.Mathlib.Omega.{arith}
 use Rattle.calendar_dates.proofs.dates.clock_exists.Statement.{statement}
 use Rattle.calendar_dates.proofs.dates.clock_exists.Tie as tie
-use Rattle.calendar_dates.proofs.dates.clock_exists.Reads as reads
-use Rattle.calendar_dates.proofs.dates.clock_exists.Lts as lts
 use Rattle.octets.proofs.choice.both.Reads as both-reads
 
 both-requires : tie.Need-both-requires
@@ -13,7 +15,8 @@ both-requires-2 : tie.Need-both-requires-2
 both-requires-2 c κs = search needs
 
 returns : tie.Need-returns
-returns c = search needs
+unfolding clockB
+returns c = c .both2 .ensures ∙ rw (c .before .both .ensures)
 
 pub clock-exists-spec : {M : Type 1} → statement M
 clock-exists-spec = tie.close (tie.spec both-requires both-requires-2 returns)

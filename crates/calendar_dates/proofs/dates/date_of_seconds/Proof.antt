@@ -1,23 +1,35 @@
+-- The month that is found is the one in which the day lies.
+-- Assumes nothing.
+use mathlib.Core.Path.{sym, _∙_}
+use Prim.Native.Nat.{_-_, _/_, _<_}
+use Rattle.calendar_months.proofs.MonthLaws.{length-between}
+use Rattle.calendar_dates.specs.Dates.{dateOn}
+use Rattle.calendar_dates.proofs.DayLaws.{days-next}
+use Rattle.calendar_dates.proofs.DateLaws.{dated, dated-outside}
 use borrow.Author.Needs.{needs}
 use native.Mathlib.Omega.{arith}
 use Rattle.calendar_dates.proofs.dates.date_of_seconds.Statement.{statement}
 use Rattle.calendar_dates.proofs.dates.date_of_seconds.Tie as tie
-use Rattle.calendar_dates.proofs.dates.date_of_seconds.Reads as reads
-use Rattle.calendar_dates.proofs.dates.date_of_seconds.Lts as lts
 use Rattle.calendar_dates.proofs.dates.month_of.Reads as month-of-reads
 use Rattle.calendar_months.proofs.months.days_before.Reads as days-before-reads
+
+-- a day of the month that was found
+short : (c : tie.After-days-before) → c .before .before .before .before .args .seconds / 86400 - c .days-before .result < 31
+short c =
+    let m = c .before .month-of in
+    omega (arith, c .days-before .ensures, m .ensures, days-next (m .result), length-between (m .result) .1)
 
 cast-if1 : tie.Need-cast-if1
 cast-if1 c = search needs
 
 returns : tie.Need-returns
-returns c = search needs
+returns c = sym (dated-outside (c .before .before .args .seconds) (omega arith))
 
 cast-day : tie.Need-cast-day
 cast-day c = search needs
 
 month-of-requires : tie.Need-month-of-requires
-month-of-requires c κs = search needs
+month-of-requires c κs = (c .before .before .pre, omega arith)
 
 cast-t9 : tie.Need-cast-t9
 cast-t9 c = search needs
@@ -38,10 +50,10 @@ sub-t15 : tie.Need-sub-t15
 sub-t15 c = search needs
 
 cast-t16 : tie.Need-cast-t16
-cast-t16 c = search needs
+cast-t16 c = omega (arith, short c)
 
 add-t17 : tie.Need-add-t17
-add-t17 c = search needs
+add-t17 c = omega (arith, short c)
 
 cast-t18 : tie.Need-cast-t18
 cast-t18 c = search needs
@@ -53,7 +65,13 @@ cast-t23 : tie.Need-cast-t23
 cast-t23 c = search needs
 
 returns-2 : tie.Need-returns-2
-returns-2 c = search needs
+unfolding dateOn
+returns-2 c =
+    let m = c .before in
+    let s = m .before .before .before .args .seconds in
+    let found = m .month-of .ensures in
+    rw (c .days-before .ensures)
+    (sym (dated s (m .month-of .result) (omega arith) (found .0) (record { from = found .1; before = found .2 })))
 
 pub date-of-seconds-spec : {M : Type 1} → statement M
 date-of-seconds-spec =

@@ -1,23 +1,34 @@
+-- The three tests one after the other; a month's length is the step of the table there.
+-- Assumes nothing.
+use mathlib.Core.Path.{_≡_, sym, _∙_}
+use mathlib.Core.Bool.{true}
+use borrow.Author.Tests.{not-true, not-false}
+use Rattle.calendar_dates.specs.Dates.{monthB}
+use Rattle.calendar_dates.proofs.DayLaws.{days-next}
+use Rattle.calendar_dates.proofs.DateLaws.{no-month, exists-by-length, step-length}
 use borrow.Author.Needs.{needs}
 use native.Mathlib.Omega.{arith}
 use Rattle.calendar_dates.proofs.dates.exists.Statement.{statement}
 use Rattle.calendar_dates.proofs.dates.exists.Tie as tie
-use Rattle.calendar_dates.proofs.dates.exists.Reads as reads
-use Rattle.calendar_dates.proofs.dates.exists.Lts as lts
 use Rattle.calendar_dates.proofs.dates.clock_exists.Reads as clock-exists-reads
 use Rattle.calendar_dates.proofs.dates.month_exists.Reads as month-exists-reads
 use Rattle.calendar_dates.proofs.dates.month_number.Reads as month-number-reads
 use Rattle.calendar_months.proofs.months.days_before.Reads as days-before-reads
 use Rattle.octets.proofs.choice.both.Reads as both-reads
 
+good : (c : tie.Else1) → monthB (c .before .before .before .args .date) ≡ true
+good c = sym (c .before .month-exists .ensures) ∙ not-false _ (c .if1 .left)
+
 month-exists-requires : tie.Need-month-exists-requires
 month-exists-requires c κs = search needs
 
 returns : tie.Need-returns
-returns c = search needs
+returns c =
+    let m = c .before in
+    sym (no-month (m .before .before .args .date) (sym (m .month-exists .ensures) ∙ not-true _ (c .if1 .taken)))
 
 month-number-requires : tie.Need-month-number-requires
-month-number-requires c κs = search needs
+month-number-requires c κs = good c
 
 add-days-before : tie.Need-add-days-before
 add-days-before c = search needs
@@ -29,7 +40,9 @@ days-before-requires-2 : tie.Need-days-before-requires-2
 days-before-requires-2 c κs = search needs
 
 sub-days : tie.Need-sub-days
-sub-days c = search needs
+sub-days c =
+    let a = c .before in
+    let k = a .before .month-number .result in omega (arith, a .days-before .ensures, c .days-before2 .ensures, days-next k)
 
 cast-both : tie.Need-cast-both
 cast-both c = search needs
@@ -44,7 +57,17 @@ both-requires-2 : tie.Need-both-requires-2
 both-requires-2 c κs = search needs
 
 returns-2 : tie.Need-returns-2
-returns-2 c = search needs
+returns-2 c =
+    let e = c .before in
+    let b = e .before in
+    let y = b .before .before .before in
+    let x = y .before in
+    let n = x .before in
+    let d = n .before .before .before .before .args .date in
+    c .both2 .ensures
+    ∙ rw (b .both .ensures, e .clock-exists .ensures)
+    (exists-by-length d (good (n .before))
+    (step-length d (good (n .before)) (n .month-number .ensures .0) (x .days-before .ensures) (y .days-before2 .ensures)))
 
 pub exists-spec : {M : Type 1} → statement M
 exists-spec =

@@ -1,9 +1,11 @@
+-- The four tests in a row.
+-- Assumes nothing.
+use mathlib.Core.Path.{_∙_}
+use Rattle.calendar_dates.specs.Dates.{monthB}
 use borrow.Author.Needs.{needs}
 use native.Mathlib.Omega.{arith}
 use Rattle.calendar_dates.proofs.dates.month_exists.Statement.{statement}
 use Rattle.calendar_dates.proofs.dates.month_exists.Tie as tie
-use Rattle.calendar_dates.proofs.dates.month_exists.Reads as reads
-use Rattle.calendar_dates.proofs.dates.month_exists.Lts as lts
 use Rattle.octets.proofs.choice.both.Reads as both-reads
 
 both-requires : tie.Need-both-requires
@@ -16,7 +18,8 @@ both-requires-3 : tie.Need-both-requires-3
 both-requires-3 c κs = search needs
 
 returns : tie.Need-returns
-returns c = search needs
+unfolding monthB
+returns c = c .both3 .ensures ∙ rw (c .before .before .before .before .both .ensures, c .before .both2 .ensures)
 
 pub month-exists-spec : {M : Type 1} → statement M
 month-exists-spec = tie.close (tie.spec both-requires both-requires-2 both-requires-3 returns)

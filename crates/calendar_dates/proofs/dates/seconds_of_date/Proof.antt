@@ -1,21 +1,33 @@
+-- A date that exists is its days and the second of its day.
+-- Assumes nothing.
+use mathlib.Core.Path.{_≡_, sym, _∙_}
+use mathlib.Core.Bool.{true}
+use borrow.Author.Tests.{not-true, not-false}
+use Rattle.octets.proofs.Tests.{both-reads}
+use Rattle.calendar_dates.specs.Dates.{monthB, existsB, secondsTo}
+use Rattle.calendar_dates.proofs.DateLaws.{exists-reads, reckoned, no-such-date}
 use borrow.Author.Needs.{needs}
 use native.Mathlib.Omega.{arith}
 use Rattle.calendar_dates.proofs.dates.seconds_of_date.Statement.{statement}
 use Rattle.calendar_dates.proofs.dates.seconds_of_date.Tie as tie
-use Rattle.calendar_dates.proofs.dates.seconds_of_date.Reads as reads
-use Rattle.calendar_dates.proofs.dates.seconds_of_date.Lts as lts
 use Rattle.calendar_dates.proofs.dates.exists.Reads as exists-reads
 use Rattle.calendar_dates.proofs.dates.month_number.Reads as month-number-reads
 use Rattle.calendar_months.proofs.months.days_before.Reads as days-before-reads
+
+good : (c : tie.Else1) → existsB (c .before .before .before .args .date) ≡ true
+good c = sym (c .before .exists .ensures) ∙ not-false _ (c .if1 .left)
 
 exists-requires : tie.Need-exists-requires
 exists-requires c κs = search needs
 
 returns : tie.Need-returns
-returns c = search needs
+returns c =
+    let e = c .before in
+    sym (no-such-date (e .before .before .args .date) (sym (e .exists .ensures) ∙ not-true _ (c .if1 .taken)))
 
 month-number-requires : tie.Need-month-number-requires
-month-number-requires c κs = search needs
+unfolding existsB
+month-number-requires c κs = both-reads (monthB (c .before .before .before .args .date)) _ (good c) .0
 
 days-before-requires : tie.Need-days-before-requires
 days-before-requires c κs = search needs
@@ -24,7 +36,9 @@ cast-days : tie.Need-cast-days
 cast-days c = search needs
 
 sub-days : tie.Need-sub-days
-sub-days c = search needs
+sub-days c =
+    let e = c .before .before .before in
+    let d = e .before .before .before .args .date in omega (arith, exists-reads d (good e) .of-day .from)
 
 cast-days-2 : tie.Need-cast-days-2
 cast-days-2 c = search needs
@@ -60,7 +74,13 @@ add-t17 : tie.Need-add-t17
 add-t17 c = search needs
 
 returns-2 : tie.Need-returns-2
-returns-2 c = search needs
+unfolding secondsTo
+returns-2 c =
+    let b = c .before .before .before .before in
+    let n = b .before in
+    let e = n .before in
+    let d = e .before .before .before .args .date in
+    rw (b .days-before .ensures, n .month-number .ensures .0) (sym (reckoned d (good e)))
 
 pub seconds-of-date-spec : {M : Type 1} → statement M
 seconds-of-date-spec =

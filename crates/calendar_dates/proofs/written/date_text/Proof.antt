@@ -1,9 +1,10 @@
+-- Its digits one by one.
+-- Assumes nothing.
+use Rattle.calendar_dates.specs.Written.{dateText}
 use borrow.Author.Needs.{needs}
 use native.Mathlib.Omega.{arith}
 use Rattle.calendar_dates.proofs.written.date_text.Statement.{statement}
 use Rattle.calendar_dates.proofs.written.date_text.Tie as tie
-use Rattle.calendar_dates.proofs.written.date_text.Reads as reads
-use Rattle.calendar_dates.proofs.written.date_text.Lts as lts
 use Rattle.calendar_dates.proofs.written.ones.Reads as ones-reads
 use Rattle.calendar_dates.proofs.written.tens.Reads as tens-reads
 
@@ -65,7 +66,22 @@ ones-requires-7 : tie.Need-ones-requires-7
 ones-requires-7 c κs = search needs
 
 returns : tie.Need-returns
-returns c = search needs
+unfolding dateText
+returns c =
+    let a = c .before in
+    let b = a .before in
+    let d = b .before in
+    let e = d .before in
+    let f = e .before in
+    let g = f .before in
+    let h = g .before in
+    let i = h .before in
+    let j = i .before in
+    let k = j .before in
+    let l = k .before in
+    let m = l .before in
+    let n = m .before in
+    rw (c .ones7 .ensures, a .tens7 .ensures, b .ones6 .ensures, d .tens6 .ensures, e .ones5 .ensures, f .tens5 .ensures, g .ones4 .ensures, h .tens4 .ensures, i .ones3 .ensures, j .tens3 .ensures, k .ones2 .ensures, l .tens2 .ensures, m .ones .ensures, n .tens .ensures)
 
 pub date-text-spec : {M : Type 1} → statement M
 date-text-spec =
