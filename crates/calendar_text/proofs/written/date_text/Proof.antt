@@ -1,12 +1,12 @@
 -- Its digits one by one.
 -- Assumes nothing.
-use Rattle.calendar_dates.specs.Written.{dateText}
+use Rattle.calendar_text.specs.Written.{dateText}
 use borrow.Author.Needs.{needs}
 use native.Mathlib.Omega.{arith}
-use Rattle.calendar_dates.proofs.written.date_text.Statement.{statement}
-use Rattle.calendar_dates.proofs.written.date_text.Tie as tie
-use Rattle.calendar_dates.proofs.written.ones.Reads as ones-reads
-use Rattle.calendar_dates.proofs.written.tens.Reads as tens-reads
+use Rattle.calendar_text.proofs.written.date_text.Statement.{statement}
+use Rattle.calendar_text.proofs.written.date_text.Tie as tie
+use Rattle.calendar_text.proofs.written.ones.Reads as ones-reads
+use Rattle.calendar_text.proofs.written.tens.Reads as tens-reads
 
 cast-month : tie.Need-cast-month
 cast-month c = search needs

@@ -1,0 +1,35 @@
+-- A date and time as it is written (change request E4), `2025-05-08 06:13:20`. Text is ASCII: 48 is `0`, 45 is `-`, 32 a space, 58 is `:`, 63 is `?`.
+use mathlib.Core.List.{List, [], _∷_, _++_}
+use Prim.Native.Nat.{ℕ, _+_, _/_, _%_}
+use Rattle.text.specs.Line.{decimal}
+use Rattle.calendar_dates.specs.declared.dates.Date.{Date}
+use Rattle.calendar_dates.specs.declared.dates.Dated.{Dated}
+use Rattle.calendar_dates.specs.declared.dates.Dated.the-variants.{On, Outside}
+
+abbrev pub tensDigit : ℕ → ℕ
+tensDigit n = 48 + n / 10 % 10
+
+abbrev pub onesDigit : ℕ → ℕ
+onesDigit n = 48 + n % 10
+
+-- the last two digits of a number, zeros in front among them
+abbrev pub twoDigits : ℕ → List ℕ
+twoDigits n = tensDigit n ∷ onesDigit n ∷ []
+
+unfoldable pub dateText : Date → List ℕ
+dateText d =
+    twoDigits (d .year / 100) ++ (twoDigits (d .year)
+    ++ (45 ∷ twoDigits (d .month)
+    ++ (45 ∷ twoDigits (d .day)
+    ++ (32 ∷ twoDigits (d .hour)
+    ++ (58 ∷ twoDigits (d .minute)
+    ++ (58 ∷ twoDigits (d .second)))))))
+
+-- the same with a byte after it, a space or the line's end; `?` for a second that has no date
+unfoldable pub datedText : Dated → ℕ → List ℕ
+datedText (On d) after = dateText d ++ (after ∷ [])
+datedText Outside after = 63 ∷ after ∷ []
+
+-- a number with a byte after it
+unfoldable pub numberText : ℕ → ℕ → List ℕ
+numberText n after = decimal n ++ (after ∷ [])
