@@ -3,6 +3,7 @@
 //! pipe: every lent buffer there and back, so that nothing of a call is left to that program.
 
 use crate::reader::Reader;
+use crate::record::Fields;
 use std::cell::RefCell;
 use std::io::{self, BufReader, Read, Write};
 use std::process::{Child, ChildStdin, ChildStdout, Command, Stdio};
@@ -182,7 +183,7 @@ impl Reader for Archive {
         self.call(Function::Join, &mut [Lent(joining), Shown(notification)])
     }
 
-    fn read(&self, bytes: &[u8], fields: &mut [u32; 11]) -> i32 {
+    fn read(&self, bytes: &[u8], fields: &mut Fields) -> i32 {
         let mut lent: Vec<u8> = fields.iter().flat_map(|field| field.to_le_bytes()).collect();
         let answer = self.call(Function::Read, &mut [Shown(bytes), Lent(&mut lent)]);
         for (field, bytes) in fields.iter_mut().zip(lent.chunks_exact(4)) {

@@ -20,6 +20,7 @@
 //! | `keep` | the tablet's own copy of a log; not in the paper |
 //! | `carry` | Carrying a stamp |
 //! | `listing` | the listing program's lines |
+//! | `calendar` | What the log showed, on a calendar |
 //! | `report` | the lines of a whole report over the air |
 //! | `heard` | lines with what a tablet makes of a report, and of stamps |
 //! | `season` | Season figures from all the readers |
@@ -37,6 +38,7 @@
 
 pub mod access;
 pub mod archive;
+pub mod calendar;
 pub mod carry;
 pub mod clock;
 pub mod concatenation;

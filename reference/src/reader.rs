@@ -2,8 +2,9 @@
 
 use crate::clock::Switches;
 use crate::numbers::{Numbers, PAPER};
+use crate::record::{self, Fields};
 use crate::refusal::{self, Refusal};
-use crate::{access, carry, clock, image, joining, keep, notify, record, update};
+use crate::{access, carry, clock, image, joining, keep, notify, update};
 
 /// A reader as a C caller sees it. Answers of at least 0 mean done (bytes written), answers
 /// below 0 are minus the paper's refusal number. A refusal leaves every buffer untouched, but
@@ -28,7 +29,7 @@ pub trait Reader {
     /// 0 more to come, else the length of the whole record. Refuses 10.
     fn join(&self, joining: &mut [u8], notification: &[u8]) -> i32;
     /// Refuses 11.
-    fn read(&self, bytes: &[u8], fields: &mut [u32; 11]) -> i32;
+    fn read(&self, bytes: &[u8], fields: &mut Fields) -> i32;
     /// Refuses 1, 11, 23.
     fn keep(&self, table: &mut [u8], bytes: &[u8]) -> i32;
     /// Refuses 1, 12, 13.
@@ -106,7 +107,7 @@ impl Reader for Reference {
         answer(joining::join(&self.numbers, joining, notification))
     }
 
-    fn read(&self, bytes: &[u8], fields: &mut [u32; 11]) -> i32 {
+    fn read(&self, bytes: &[u8], fields: &mut Fields) -> i32 {
         let Some(record) = record::read(&self.numbers, bytes) else {
             return Refusal::NotARecord.answer();
         };

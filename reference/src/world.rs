@@ -3,6 +3,7 @@
 use crate::image::STATE_BYTES;
 use crate::joining::JOINING_BYTES;
 use crate::reader::Reader;
+use crate::record::Fields;
 
 /// What fresh buffers are filled with: a byte no call writes by chance everywhere.
 pub const FILL: u8 = 0xAA;
@@ -13,7 +14,7 @@ pub struct World {
     pub table: Vec<u8>,
     pub joining: Vec<u8>,
     pub out: Vec<u8>,
-    pub fields: [u32; 11],
+    pub fields: Fields,
     pub carried: i64,
     /// The bytes of the last segment sent, as the radio would bring them to the tablet.
     pub segment: Vec<u8>,

@@ -1,33 +1,17 @@
 //! The season's figures, worked by hand from the paper's words; and the comparison of a program
 //! that prints them, tried on the reference's own.
 
+mod by_hand;
+
+use by_hand::{full_table, FAULT, FIRST, LAST, UPDATE};
 use reference::concatenation::Comparison;
 use reference::season::{Failure, PAPER};
 use std::io::{self, ErrorKind, Read};
 
-const FAULT: u8 = 0;
-const UPDATE: u8 = 1;
-/// The ends of Base_Time's range, 2,524,607,999 seconds apart.
-const FIRST: u32 = 631_152_000;
-const LAST: u32 = 3_155_759_999;
-
-/// A full table, byte by byte: type, new base and old base of each record.
+/// A full table: type, new base and old base of each record.
 fn table(records: &[(u8, u32, u32)]) -> Vec<u8> {
-    let count = (records.len() as u16).to_le_bytes();
-    let mut bytes = [count, count, [16, 0], [0, 0], count].concat();
-    bytes.resize(16, 0);
-    for (number, (kind, base, old_base)) in (0u16..).zip(records) {
-        let [low, high] = number.to_le_bytes();
-        let mut slot = vec![20, low, high, *kind, 0, 0, 0, 0x16, 0, 0x16, 0, 0, 0];
-        if *kind == UPDATE {
-            slot[0] = 24;
-            slot.extend([0x04, 0x00, 0x02, 0x01]);
-        }
-        slot.extend([base.to_le_bytes(), old_base.to_le_bytes()].concat());
-        slot.resize(64, 0);
-        bytes.extend(slot);
-    }
-    bytes
+    let records = records.iter().map(|(kind, base, old_base)| (*kind, [4, 0], [*base, *old_base]));
+    full_table(&records.collect::<Vec<_>>())
 }
 
 /// Set to 800,000,000, and after 100 seconds back to 800,000,070.
