@@ -1,20 +1,21 @@
 //! Made concatenations of tables, and a season program compared with the reference's on them.
 //!
-//! The program is a command that reads a concatenation on its standard input. What it prints must
-//! be what the reference prints, byte for byte, with nothing on standard error and status 0. A
-//! concatenation is data, so that one that shows a difference is cut down to the entries that it
+//! A concatenation is data, so that one that shows a difference is cut down to the entries that it
 //! takes to show it.
 
-use crate::mutants::{wrong_season, WRONG_SEASONS};
+use crate::mutants::{wrong, WRONG_SEASONS};
 use crate::numbers::PAPER;
-use crate::random::{planned_table, shortest, some_plan, some_slots, table_damage, Plan, Random};
+use crate::program::{Prints, Program};
+use crate::random::{
+    planned_table, shortest, some_plan, some_slots, table_damage, table_of, Plan, Random,
+    ANY_UPDATE,
+};
 use crate::record::{Record, TimeUpdate};
 use crate::season::{self, Season};
-use crate::table::{self, Shape, HEADER_BYTES, SLOT_BYTES};
-use std::io::{self, Write};
-use std::process::{Command, Output, Stdio};
-use std::thread;
+use crate::table::{Shape, HEADER_BYTES, SLOT_BYTES};
 
+/// The size before a table.
+const SIZE_BYTES: usize = 4;
 /// Whole entries at most; one that isn't may come besides.
 const MOST_ENTRIES: usize = 7;
 /// Sizes that aren't permitted: too small, too large, between two that are, and such as would be
@@ -24,12 +25,9 @@ const ODD_SIZES: [u32; 12] =
 /// Behind an odd size stands at most a table that has one slot too many.
 const ODD_SLOTS: usize = 1_024;
 
-/// More than the longest line has.
-const SHOWN_BYTES: usize = 200;
-
 /// A size and a table, told in few numbers so that a mismatch prints shortly.
 #[derive(Clone, Debug)]
-struct Entry {
+pub struct Entry {
     size: u32,
     table: Plan,
     /// Where bytes are put into the table, and which.
@@ -48,7 +46,7 @@ fn whole_entry(random: &mut Random) -> Entry {
     let table = some_plan(random, slots);
     let damaged = random.one_in(3);
     let damage = damaged.then(|| table_damage(random, &planned_table(&table))).flatten();
-    Entry { size: table_bytes(slots) as u32, table, damage, bytes: 4 + table_bytes(slots) }
+    Entry { size: table_bytes(slots) as u32, table, damage, bytes: SIZE_BYTES + table_bytes(slots) }
 }
 
 /// An entry whose end is missing: the input stops inside its size, right after it, or inside its
@@ -65,7 +63,16 @@ fn odd_entry(random: &mut Random) -> Entry {
     let size = random.pick(&ODD_SIZES);
     let bytes = table_bytes(ODD_SLOTS).min(size as usize);
     let slots = bytes.saturating_sub(HEADER_BYTES) / SLOT_BYTES;
-    Entry { size, table: some_plan(random, slots.max(1)), damage: None, bytes: 4 + bytes }
+    Entry { size, table: some_plan(random, slots.max(1)), damage: None, bytes: SIZE_BYTES + bytes }
+}
+
+/// An entry of any kind, most of them whole.
+pub fn some_entry(random: &mut Random) -> Entry {
+    match random.below(6) {
+        0 => odd_entry(random),
+        1 => cut_entry(random),
+        _ => whole_entry(random),
+    }
 }
 
 fn some_entries(random: &mut Random) -> Vec<Entry> {
@@ -87,6 +94,11 @@ fn entry_bytes(entry: &Entry) -> Vec<u8> {
     let mut bytes = [&entry.size.to_le_bytes(), &table[..]].concat();
     bytes.resize(entry.bytes, 0);
     bytes
+}
+
+/// The entry without its size: a table, what is left of one, or something as large as none.
+pub fn entry_table(entry: &Entry) -> Vec<u8> {
+    entry_bytes(entry).split_off(SIZE_BYTES.min(entry.bytes))
 }
 
 fn concatenated(entries: &[Entry]) -> Vec<u8> {
@@ -128,50 +140,31 @@ fn long_concatenation(run: &LongRun) -> Vec<u8> {
 
 /// An entry of one slot, held by an update.
 fn one_update(base: u32, old_base: u32) -> Vec<u8> {
-    let update = TimeUpdate {
-        sequence: 0,
-        status: 0x16,
-        old_status: 0x16,
-        fault_count: 0,
-        zone: 0x04,
-        dst: 0,
-        source: 2,
-        accuracy: 1,
-        base,
-        old_base,
-    };
-    let mut table = vec![0; table_bytes(1)];
-    table::clear(&mut table, 1);
-    let empty = Shape { slots: 1, held: 0, oldest: 0, next: 0 };
-    table::append(&PAPER, &mut table, empty, &Record::Update(update));
+    let full = Shape { slots: 1, held: 1, oldest: 0, next: 1 };
+    let table = table_of(full, |sequence| {
+        Record::Update(TimeUpdate { sequence, base, old_base, ..ANY_UPDATE })
+    });
     [&(table.len() as u32).to_le_bytes(), &table[..]].concat()
 }
 
-/// A command beside the reference, and the wrong programs that still print what it prints.
+/// A season program beside the reference.
 pub struct Comparison {
-    command: Vec<String>,
-    untold: Vec<(&'static str, Season)>,
+    pub program: Program<Season>,
 }
 
 impl Comparison {
-    /// The command is the program's path, then its arguments.
-    pub fn new(command: Vec<String>) -> Comparison {
-        let wrong = WRONG_SEASONS.iter().map(|wrong| (wrong.name, wrong_season(wrong)));
-        Comparison { command, untold: wrong.collect() }
+    pub fn new(prints: Prints) -> Comparison {
+        let wrong = wrong(WRONG_SEASONS, &season::PAPER);
+        Comparison { program: Program::new(prints, figures, season::PAPER, wrong) }
     }
 
-    /// The wrong programs that the command hasn't been told from.
-    pub fn untold(&self) -> Vec<&'static str> {
-        self.untold.iter().map(|(name, _)| *name).collect()
-    }
-
-    /// Gives the command this many made concatenations, and stops at the first difference, cut
+    /// Gives the program this many made concatenations, and stops at the first difference, cut
     /// down to its fewest entries.
     pub fn made_runs(&mut self, seed: u64, runs: usize) -> Result<(), String> {
         let mut random = Random::new(seed);
         for _ in 0..runs {
             let entries = some_entries(&mut random);
-            if self.printed(&concatenated(&entries)).is_err() {
+            if self.program.printed(&concatenated(&entries)).is_err() {
                 return Err(self.mismatch(entries));
             }
         }
@@ -179,19 +172,20 @@ impl Comparison {
     }
 
     fn mismatch(&mut self, entries: Vec<Entry>) -> String {
-        let entries = shortest(entries, |fewer| self.printed(&concatenated(fewer)).is_err());
+        let entries =
+            shortest(entries, |fewer| self.program.printed(&concatenated(fewer)).is_err());
         let mut words = format!("a difference on these {} entries:\n", entries.len());
         for entry in &entries {
             words += &format!("  {entry:02X?}\n");
         }
-        words + &self.printed(&concatenated(&entries)).err().unwrap_or_default()
+        words + &self.program.printed(&concatenated(&entries)).err().unwrap_or_default()
     }
 
     /// Runs to the limit, whose ends are known besides. Answers how many there were.
     pub fn long_runs(&mut self) -> Result<usize, String> {
         for run in &LONG_RUNS {
             let what = format!("{} tables and {} bytes", run.tables, run.more);
-            let printed = self.printed(&long_concatenation(run));
+            let printed = self.program.printed(&long_concatenation(run));
             let printed = printed.map_err(|difference| format!("{what}: {difference}"))?;
             let end = format!("{}\n{LONG_TOTAL}\n", run.last_line);
             if !printed.ends_with(end.as_bytes()) {
@@ -200,59 +194,10 @@ impl Comparison {
         }
         Ok(LONG_RUNS.len())
     }
-
-    /// What the command prints of the input, if it is what the reference prints; else the first
-    /// difference in words.
-    fn printed(&mut self, input: &[u8]) -> Result<Vec<u8>, String> {
-        let output =
-            output(&self.command, input).map_err(|why| format!("it can't be run: {why}"))?;
-        self.untold.retain(|(_, wrong)| figures(wrong, input) == output.stdout);
-        if !output.status.success() || !output.stderr.is_empty() {
-            let error = shown(&output.stderr);
-            return Err(format!("{}, standard error {error:?}", output.status));
-        }
-        match first_difference(&figures(&season::PAPER, input), &output.stdout) {
-            Some(difference) => Err(difference),
-            None => Ok(output.stdout),
-        }
-    }
-}
-
-/// Runs the command. The input comes from a thread of its own, so that a program that prints
-/// before it has read all doesn't wait for us while we wait for it.
-fn output(command: &[String], input: &[u8]) -> io::Result<Output> {
-    let (program, arguments) = command.split_first().ok_or(io::ErrorKind::InvalidInput)?;
-    let mut child = Command::new(program)
-        .args(arguments)
-        .stdin(Stdio::piped())
-        .stdout(Stdio::piped())
-        .stderr(Stdio::piped())
-        .spawn()?;
-    let mut to = child.stdin.take().ok_or(io::ErrorKind::BrokenPipe)?;
-    thread::scope(|scope| {
-        // A program needn't read what comes after the end of its run.
-        scope.spawn(move || drop(to.write_all(input)));
-        child.wait_with_output()
-    })
 }
 
 fn figures(season: &Season, input: &[u8]) -> Vec<u8> {
     let mut figures = Vec::new();
     season.run(input, &mut figures).expect("memory can be read and written");
     figures
-}
-
-fn first_difference(expected: &[u8], printed: &[u8]) -> Option<String> {
-    let [expected, printed] = [expected, printed].map(|bytes| bytes.split(|byte| *byte == b'\n'));
-    let [expected, printed] = [expected, printed].map(|lines| lines.collect::<Vec<&[u8]>>());
-    let lines = expected.len().max(printed.len());
-    let line = (0..lines).find(|line| expected.get(*line) != printed.get(*line))?;
-    let [expected, printed] =
-        [expected, printed].map(|lines| lines.get(line).map(|line| shown(line)));
-    Some(format!("line {}: expected {expected:?}, printed {printed:?}", line + 1))
-}
-
-/// Bytes as text, the first of them: a wrong program may print anything.
-fn shown(bytes: &[u8]) -> String {
-    String::from_utf8_lossy(&bytes[..bytes.len().min(SHOWN_BYTES)]).into_owned()
 }

@@ -30,8 +30,10 @@
 //! | `random` | adversarial call sequences over two readers |
 //! | `once` | the books of "Every record once", kept from a reader's answers |
 //! | `history` | made histories of one reader, with those books |
+//! | `program` | a program beside the reference, and told from wrong ones |
 //! | `concatenation` | made concatenations of tables, and a season program compared on them |
-//! | `mutants` | readers wrong in one number, season programs wrong in one step |
+//! | `zones` | made tables of every zone and DST, and calendar and almanac compared |
+//! | `mutants` | readers, season, calendar and almanac programs wrong in one number or step |
 //! | `archive` | the proved archive as a reader, behind a program |
 
 #![forbid(unsafe_code)]
@@ -53,6 +55,7 @@ pub mod notify;
 pub mod numbers;
 pub mod octets;
 pub mod once;
+pub mod program;
 pub mod random;
 pub mod reader;
 pub mod record;
@@ -63,6 +66,7 @@ pub mod table;
 pub mod update;
 pub mod vectors;
 pub mod world;
+pub mod zones;
 
 // Keeps the README's example true.
 #[cfg(doctest)]

@@ -1,4 +1,4 @@
-//! Compares a reader with the reference, call by call, or a season program run by run.
+//! Compares a reader with the reference, call by call, or a season program or a calendar run by run.
 //!
 //! `--archive COMMAND` names the program that plays calls on the proved archive (tests/c/pipe.c,
 //! with what it takes to run it, between spaces); without it the reference is compared with
@@ -6,37 +6,47 @@
 //!
 //! `--season COMMAND` names a program that prints the figures of the tables on its standard input.
 //! `--runs N` (400), `--seed S` (1).
+//!
+//! `--calendar COMMAND --almanac COMMAND` names a program that prints the calendar of the table on
+//! its standard input, and one that prints the almanac. `--runs N` (60), `--seed S` (1).
 
 #![forbid(unsafe_code)]
 
 use reference::archive::Archive;
-use reference::concatenation::Comparison;
+use reference::concatenation;
 use reference::history::play;
-use reference::mutants::{spoiled, MUTANTS, WRONG_SEASONS};
+use reference::mutants::{spoiled, MUTANTS};
+use reference::program::{command, Program};
 use reference::random::{compare, differing};
 use reference::reader::{Reader, Reference};
 use reference::vectors::play_all;
+use reference::zones;
 use std::process::ExitCode;
 
 const USAGE: &str = "usage: reference [--archive COMMAND] [--calls N] [--seed S]
-       reference --season COMMAND [--runs N] [--seed S]";
+       reference --season COMMAND [--runs N] [--seed S]
+       reference --calendar COMMAND --almanac COMMAND [--runs N] [--seed S]";
 /// How many mutants the archive is compared with, and how many calls each may take.
 const MUTANTS_TRIED: usize = 15;
 const MUTANT_CALLS: usize = 60_000;
 /// Of "Every record once" on the archive.
 const HISTORIES: u64 = 40;
+/// Made inputs, if not said otherwise.
+const SEASON_RUNS: usize = 400;
+const CALENDAR_RUNS: usize = 60;
 
 /// What the reference is compared with; the words of a command.
 enum Other {
     Itself,
     Archive(Vec<String>),
     Season(Vec<String>),
+    Calendar { calendar: Vec<String>, almanac: Vec<String> },
 }
 
 struct Arguments {
     other: Other,
     calls: usize,
-    runs: usize,
+    runs: Option<usize>,
     seed: u64,
 }
 
@@ -47,7 +57,10 @@ fn main() -> ExitCode {
     };
     match other {
         Other::Itself => status(no_difference("itself", &Reference::new(), calls, seed)),
-        Other::Season(command) => status(season_passes(command, runs, seed)),
+        Other::Season(season) => status(season_passes(season, runs.unwrap_or(SEASON_RUNS), seed)),
+        Other::Calendar { calendar, almanac } => {
+            status(calendar_passes(calendar, almanac, runs.unwrap_or(CALENDAR_RUNS), seed))
+        }
         Other::Archive(command) => match Archive::new(command) {
             Err(why) => {
                 eprintln!("the archive's program cannot be started: {why}");
@@ -68,14 +81,19 @@ fn status(passed: bool) -> ExitCode {
 
 /// The arguments; nothing if they aren't understood.
 fn arguments(mut words: impl Iterator<Item = String>) -> Option<Arguments> {
-    let mut arguments = Arguments { other: Other::Itself, calls: 200_000, runs: 400, seed: 1 };
+    let mut arguments = Arguments { other: Other::Itself, calls: 200_000, runs: None, seed: 1 };
     while let Some(name) = words.next() {
         let value = words.next()?;
         match name.as_str() {
-            "--archive" => arguments.other = Other::Archive(command(&value)),
-            "--season" => arguments.other = Other::Season(command(&value)),
+            "--archive" => arguments.other = Other::Archive(split(&value)),
+            "--season" => arguments.other = Other::Season(split(&value)),
+            "--calendar" => {
+                let almanac = words.next().filter(|name| name == "--almanac").and(words.next())?;
+                let (calendar, almanac) = (split(&value), split(&almanac));
+                arguments.other = Other::Calendar { calendar, almanac };
+            }
             "--calls" => arguments.calls = value.parse().ok()?,
-            "--runs" => arguments.runs = value.parse().ok()?,
+            "--runs" => arguments.runs = Some(value.parse().ok()?),
             "--seed" => arguments.seed = value.parse().ok()?,
             _ => return None,
         }
@@ -83,7 +101,8 @@ fn arguments(mut words: impl Iterator<Item = String>) -> Option<Arguments> {
     Some(arguments)
 }
 
-fn command(words: &str) -> Vec<String> {
+/// The words of a command.
+fn split(words: &str) -> Vec<String> {
     words.split_whitespace().map(str::to_string).collect()
 }
 
@@ -150,16 +169,32 @@ fn none_missed(missed: &[&str]) -> bool {
 }
 
 /// The three parts again: made runs, those to the limit, and what the comparison is worth.
-fn season_passes(command: Vec<String>, runs: usize, seed: u64) -> bool {
-    let mut comparison = Comparison::new(command);
+fn season_passes(season: Vec<String>, runs: usize, seed: u64) -> bool {
+    let mut comparison = concatenation::Comparison::new(command(season));
     let made = comparison.made_runs(seed, runs);
-    let made =
-        told(made.map(|()| format!("{runs} concatenations from seed {seed}: no difference")));
     let long = comparison.long_runs();
-    let long = told(long.map(|runs| format!("{runs} runs to 65,535 tables: no difference")));
-    let (untold, wrong) = (comparison.untold(), WRONG_SEASONS.len());
-    println!("{} of {wrong} wrong programs told from it", wrong - untold.len());
-    none_missed(&untold) && made && long
+    let passed = [
+        told(made.map(|()| format!("{runs} concatenations from seed {seed}: no difference"))),
+        told(long.map(|runs| format!("{runs} runs to 65,535 tables: no difference"))),
+        wrong_are_told("programs", &comparison.program),
+    ];
+    passed == [true; 3]
+}
+
+/// The almanac, the calendar's two parts, and what the comparison of either is worth.
+fn calendar_passes(calendar: Vec<String>, almanac: Vec<String>, runs: usize, seed: u64) -> bool {
+    let mut comparison = zones::Comparison::new(command(calendar), command(almanac));
+    let days = comparison.every_day();
+    let zones = comparison.every_zone();
+    let made = comparison.made_tables(seed, runs);
+    let passed = [
+        told(days.map(|days| format!("both ends of {days} days there and back: no difference"))),
+        told(zones.map(|records| format!("{records} records, every zone and DST: no difference"))),
+        told(made.map(|()| format!("{runs} tables from seed {seed}: no difference"))),
+        wrong_are_told("almanacs", &comparison.almanac),
+        wrong_are_told("calendars", &comparison.calendar),
+    ];
+    passed == [true; 5]
 }
 
 /// Prints what was found; whether that was no difference.
@@ -168,4 +203,10 @@ fn told(found: Result<String, String>) -> bool {
     let (Ok(words) | Err(words)) = found;
     println!("{words}");
     passed
+}
+
+fn wrong_are_told<T>(what: &str, program: &Program<T>) -> bool {
+    let (untold, wrong) = (program.untold(), program.wrong);
+    println!("{} of {wrong} wrong {what} told from it", wrong - untold.len());
+    none_missed(&untold)
 }

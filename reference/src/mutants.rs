@@ -1,11 +1,12 @@
-//! Readers that are wrong in one number or one step each, and season programs that are wrong in one
-//! step: a comparison is worth what it notices of these.
+//! Readers that are wrong in one number or one step each, and season, calendar and almanac programs
+//! that are wrong in one: a comparison is worth what it notices of these.
 
 use crate::access::{matches, Filter};
+use crate::calendar::{self, known_dst, known_zone, Calendar, Dates};
 use crate::numbers::{Numbers, PAPER};
 use crate::reader::Reference;
 use crate::record::{self, Record};
-use crate::season::{self, Entry, Figures, Season};
+use crate::season::{Entry, Figures, Season};
 use crate::table::{Log, HEADER_BYTES, SLOT_BYTES};
 
 /// A number or step of the paper, spoiled; or one thing of something else.
@@ -50,11 +51,22 @@ pub const MUTANTS: &[Mutant] = &[
     Mutant { name: "a turned range is turned back", spoil: |n| n.matches = turned_back },
 ];
 
+impl<T: Clone> Mutant<T> {
+    fn of(&self, right: &T) -> T {
+        let mut wrong = right.clone();
+        (self.spoil)(&mut wrong);
+        wrong
+    }
+}
+
+/// Each of them made of what is right, with its name.
+pub fn wrong<T: Clone>(mutants: &[Mutant<T>], right: &T) -> Vec<(&'static str, T)> {
+    mutants.iter().map(|mutant| (mutant.name, mutant.of(right))).collect()
+}
+
 /// The reference with that number or step spoiled.
 pub fn spoiled(mutant: &Mutant) -> Reference {
-    let mut numbers = PAPER;
-    (mutant.spoil)(&mut numbers);
-    Reference { numbers }
+    Reference { numbers: mutant.of(&PAPER) }
 }
 
 /// The rule that change request E1 did away with.
@@ -128,13 +140,6 @@ pub const WRONG_SEASONS: &[Mutant<Season>] = &[
     Mutant { name: "the last table's largest in the totals", spoil: |s| s.add_table = add_last },
 ];
 
-/// The season program with that step spoiled.
-pub fn wrong_season(mutant: &Mutant<Season>) -> Season {
-    let mut season = season::PAPER;
-    (mutant.spoil)(&mut season);
-    season
-}
-
 /// Adds every slot that has a record, whatever else is wrong with the table.
 fn add_all(total: &mut Figures, table: &[u8]) {
     for slot in table[HEADER_BYTES..].chunks_exact(SLOT_BYTES) {
@@ -181,3 +186,98 @@ fn add_last(total: &mut Figures, table: &Figures) {
     total.add_table(table);
     total.largest = table.largest;
 }
+
+/// Seconds turned to dates wrongly, whoever prints them.
+pub const WRONG_DATES: &[Mutant<Dates>] = &[
+    Mutant { name: "2000 is no leap year", spoil: |d| d.days_before_year = without_2000 },
+    Mutant { name: "2001 is a leap year", spoil: |d| d.days_before_year = with_2001 },
+    Mutant { name: "2096 is no leap year", spoil: |d| d.days_before_year = without_2096 },
+    Mutant { name: "31 September, for 31 August", spoil: |d| d.days_before_month = early_autumn },
+    Mutant { name: "months from 0", spoil: |d| d.first_month = 0 },
+    Mutant { name: "days from 0", spoil: |d| d.first_day = 0 },
+    Mutant { name: "days of 86,401 seconds", spoil: |d| d.day_seconds = 86_401 },
+    Mutant {
+        name: "hours from 0 to 11",
+        spoil: |d| d.time = |s| [s / 3_600 % 12, s / 60 % 60, s % 60],
+    },
+    Mutant {
+        name: "minutes from the day's beginning",
+        spoil: |d| d.time = |s| [s / 3_600, s / 60, s % 60],
+    },
+    Mutant {
+        name: "seconds from 1 to 60",
+        spoil: |d| d.time = |s| [s / 3_600, s / 60 % 60, 1 + s % 60],
+    },
+    Mutant { name: "2100 has dates", spoil: |d| d.years = 2000..=2100 },
+    Mutant { name: "2099 has no dates", spoil: |d| d.years = 2000..=2098 },
+    Mutant { name: "no dates before 2020", spoil: |d| d.years = 2020..=2099 },
+];
+
+/// Years count from 1 March 1600, so that year 400 begins on 1 March 2000.
+fn without_2000(years: u32) -> u32 {
+    (calendar::PAPER.dates.days_before_year)(years) - u32::from(years >= 400)
+}
+
+fn with_2001(years: u32) -> u32 {
+    (calendar::PAPER.dates.days_before_year)(years) + u32::from(years >= 401)
+}
+
+fn without_2096(years: u32) -> u32 {
+    (calendar::PAPER.dates.days_before_year)(years) - u32::from(years >= 496)
+}
+
+/// September is six months after March.
+fn early_autumn(months: u32) -> u32 {
+    (calendar::PAPER.dates.days_before_month)(months) - u32::from(months == 6)
+}
+
+/// Dates turned back to seconds wrongly, which the calendar never does.
+pub const WRONG_ALMANACS: &[Mutant<Dates>] = &[
+    Mutant {
+        name: "back to the minute",
+        spoil: |d| d.second_of_day = |date| 3_600 * date.hour + 60 * date.minute,
+    },
+    Mutant {
+        name: "back by 24 minutes for 24 hours",
+        spoil: |d| d.second_of_day = |date| 60 * (date.hour + date.minute) + date.second,
+    },
+];
+
+pub const WRONG_CALENDARS: &[Mutant<Calendar>] = &[
+    Mutant { name: "the old base is shown", spoil: |c| c.base = |[.., old_base]| *old_base },
+    Mutant { name: "a fault has zone and DST 0", spoil: |c| c.has_zone = |_| true },
+    Mutant { name: "zone left out", spoil: |c| c.zone = |zone| known_zone(zone).map(|_| 0) },
+    Mutant {
+        name: "zone taken away",
+        spoil: |c| c.zone = |zone| known_zone(zone).map(|zone| -zone),
+    },
+    Mutant {
+        name: "zone in hours",
+        spoil: |c| c.zone = |zone| known_zone(zone).map(|zone| 4 * zone),
+    },
+    Mutant {
+        name: "zone without sign",
+        spoil: |c| c.zone = |zone| known_zone(zone).map(|_| zone as i32),
+    },
+    Mutant {
+        name: "zone 0 is unknown",
+        spoil: |c| c.zone = |zone| known_zone(zone).filter(|zone| *zone != 0),
+    },
+    Mutant { name: "unknown zone as 0", spoil: |c| c.zone = |zone| known_zone(zone).or(Some(0)) },
+    Mutant {
+        name: "unknown zone as -128",
+        spoil: |c| c.zone = |zone| known_zone(zone).or(Some(-128)),
+    },
+    Mutant { name: "DST left out", spoil: |c| c.dst = |dst| known_dst(dst).map(|_| 0) },
+    Mutant { name: "DST taken away", spoil: |c| c.dst = |dst| known_dst(dst).map(|dst| -dst) },
+    Mutant {
+        name: "DST in half hours",
+        spoil: |c| c.dst = |dst| known_dst(dst).map(|dst| 2 * dst),
+    },
+    Mutant {
+        name: "double DST as DST",
+        spoil: |c| c.dst = |dst| known_dst(dst).map(|dst| dst.min(4)),
+    },
+    Mutant { name: "unknown DST as 0", spoil: |c| c.dst = |dst| known_dst(dst).or(Some(0)) },
+    Mutant { name: "unknown DST as 255", spoil: |c| c.dst = |dst| Some(dst as i32) },
+];

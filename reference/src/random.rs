@@ -268,19 +268,38 @@ pub fn some_plan(random: &mut Random, slots: usize) -> Plan {
 /// A sound table with records of both kinds.
 pub fn planned_table(plan: &Plan) -> Vec<u8> {
     let mut random = Random::new(plan.seed);
-    let mut bytes = vec![0; HEADER_BYTES + SLOT_BYTES * plan.slots];
-    table::clear(&mut bytes, plan.slots);
-    let oldest = if plan.held == 0 { 0 } else { plan.oldest };
+    let Plan { slots, held, oldest, next, .. } = *plan;
+    table_of(Shape { slots, held, oldest, next }, |sequence| some_record(&mut random, sequence))
+}
+
+/// The sound table of this shape, its records made one by one from their numbers, oldest first.
+pub fn table_of(shape: Shape, mut record: impl FnMut(u16) -> Record) -> Vec<u8> {
+    let mut bytes = vec![0; HEADER_BYTES + SLOT_BYTES * shape.slots];
+    table::clear(&mut bytes, shape.slots);
+    let oldest = if shape.held == 0 { 0 } else { shape.oldest };
     put_u32(&mut bytes, 4, (HEADER_BYTES + SLOT_BYTES * oldest) as u32);
-    let first = plan.next.wrapping_sub(plan.held as u16);
-    put_u16(&mut bytes, 8, first);
-    for held in 0..plan.held {
+    put_u16(&mut bytes, 8, shape.next.wrapping_sub(shape.held as u16));
+    for held in 0..shape.held {
         let next = u16_at(&bytes, 8);
-        let shape = Shape { slots: plan.slots, held, oldest, next };
-        table::append(&PAPER, &mut bytes, shape, &some_record(&mut random, next));
+        let shape = Shape { slots: shape.slots, held, oldest, next };
+        table::append(&PAPER, &mut bytes, shape, &record(next));
     }
     bytes
 }
+
+/// An update like any other: a new reader is set. What matters of one is put over it.
+pub const ANY_UPDATE: TimeUpdate = TimeUpdate {
+    sequence: 0,
+    status: 0x16,
+    old_status: 0x19,
+    fault_count: 0,
+    zone: 0x04,
+    dst: 0,
+    source: 2,
+    accuracy: 1,
+    base: 800_000_000,
+    old_base: 631_152_000,
+};
 
 fn some_record(random: &mut Random, sequence: u16) -> Record {
     let status = random.pick(&[0x10, 0x12, 0x16, 0x18, 0x1A, 0x1E, 0x19]);

@@ -6,6 +6,7 @@ mod by_hand;
 use by_hand::{full_table, FAULT, FIRST, LAST, UPDATE};
 use reference::calendar::{almanac, calendar, Date, PAPER};
 use reference::reader::Reference;
+use reference::zones::Comparison;
 
 /// 2025-05-08 06:13:20.
 const PAPERS: u32 = 800_000_000;
@@ -224,4 +225,40 @@ fn seconds_of_the_whole_range_there_and_back() {
     for there in (0..=LAST).step_by(9_973) {
         assert_eq!(PAPER.dates.seconds(&PAPER.dates.date(there).unwrap()), Some(there));
     }
+}
+
+/// The reference's own calendar and almanac, with one thing changed of what they print.
+fn comparison(change: fn(String) -> String) -> Comparison {
+    let calendar = move |table: &[u8]| Ok(change(lines(table)).into_bytes());
+    let almanac = move |_: &[u8]| Ok(change(almanac()).into_bytes());
+    Comparison::new(Box::new(calendar), Box::new(almanac))
+}
+
+#[test]
+fn the_programs_are_told_from_every_wrong_one() {
+    let mut comparison = comparison(|lines| lines);
+    assert_eq!(comparison.every_day(), Ok(36_525));
+    assert_eq!(comparison.every_zone(), Ok(106 * 5 * 9));
+    assert_eq!(comparison.made_tables(1, 60), Ok(()));
+    let untold = [comparison.almanac.untold(), comparison.calendar.untold()].concat();
+    assert!(untold.is_empty(), "not noticed: {untold:?}");
+}
+
+/// Each part notices by itself what it is there for.
+#[test]
+fn a_program_wrong_in_one_line_is_noticed() {
+    let shortened = |lines: String| lines.trim_end().to_string();
+    assert!(comparison(shortened).every_day().is_err());
+    let one_day = |lines: String| lines.replace("2096-02-29 23", "2096-03-01 23");
+    let line = "2096-02-29 00:00:00 3034627200 2096-02-29 23:59:59 3034713599";
+    let printed = line.replace("02-29 23", "03-01 23");
+    let expected =
+        format!("in the almanac, line 35124: expected Some({line:?}), printed Some({printed:?})");
+    assert_eq!(comparison(one_day).every_day(), Err(expected));
+    let last_second = |lines: String| lines.replace(" 2099-12-31 23:59:59\n", " ?\n");
+    assert!(comparison(last_second).every_zone().is_err());
+    let refused = |lines: String| lines.replace("refused 1\n", "refused 2\n");
+    assert!(comparison(refused).made_tables(1, 60).is_err());
+    let rolled = |lines: String| lines.replace("\n0 1 ", "\n65536 1 ");
+    assert!(comparison(rolled).made_tables(1, 60).is_err());
 }

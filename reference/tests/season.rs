@@ -5,6 +5,7 @@ mod by_hand;
 
 use by_hand::{full_table, FAULT, FIRST, LAST, UPDATE};
 use reference::concatenation::Comparison;
+use reference::program::command;
 use reference::season::{Failure, PAPER};
 use std::io::{self, ErrorKind, Read};
 
@@ -192,17 +193,17 @@ fn output_that_cannot_be_written_is_told() {
 
 #[test]
 fn the_program_is_told_from_every_wrong_one() {
-    let mut comparison = Comparison::new(vec![env!("CARGO_BIN_EXE_season").to_string()]);
+    let mut comparison = Comparison::new(command(vec![env!("CARGO_BIN_EXE_season").to_string()]));
     comparison.made_runs(1, 100).unwrap();
     comparison.long_runs().unwrap();
-    let untold = comparison.untold();
+    let untold = comparison.program.untold();
     assert!(untold.is_empty(), "not noticed: {untold:?}");
 }
 
 /// A program that reads and prints nothing: shown with no more entries than it takes.
 #[test]
 fn a_difference_is_shown_shortly() {
-    let shown = Comparison::new(vec!["true".to_string()]).made_runs(1, 1).unwrap_err();
+    let shown = Comparison::new(command(vec!["true".to_string()])).made_runs(1, 1).unwrap_err();
     let total = NO_TOTAL.trim_end();
     let expected = format!("line 1: expected Some({total:?}), printed Some(\"\")");
     assert_eq!(shown, format!("a difference on these 0 entries:\n{expected}"));

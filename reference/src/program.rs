@@ -1,0 +1,96 @@
+//! A program beside the reference: what it prints must be what the reference prints, byte for byte,
+//! and wrong programs are told from it by that.
+
+use std::io::{self, Write};
+use std::process::{Command, Output, Stdio};
+use std::thread;
+
+/// More than the longest line has.
+const SHOWN_BYTES: usize = 200;
+
+/// What a program prints of an input, or in words why its run doesn't count.
+pub type Prints = Box<dyn Fn(&[u8]) -> Result<Vec<u8>, String>>;
+
+/// The program that a command runs: its path, then its arguments. A run must end with status 0 and
+/// nothing on standard error.
+pub fn command(words: Vec<String>) -> Prints {
+    Box::new(move |input| {
+        let output = output(&words, input).map_err(|why| format!("it can't be run: {why}"))?;
+        if !output.status.success() || !output.stderr.is_empty() {
+            let error = shown(&output.stderr);
+            return Err(format!("{}, standard error {error:?}", output.status));
+        }
+        Ok(output.stdout)
+    })
+}
+
+/// A program, the steps that the reference takes to print the same, and the wrong steps that
+/// have printed the same so far.
+pub struct Program<T> {
+    prints: Prints,
+    lines: fn(&T, &[u8]) -> Vec<u8>,
+    reference: T,
+    untold: Vec<(&'static str, T)>,
+    /// How many wrong ones there were at first.
+    pub wrong: usize,
+}
+
+impl<T> Program<T> {
+    pub fn new(
+        prints: Prints,
+        lines: fn(&T, &[u8]) -> Vec<u8>,
+        reference: T,
+        wrong: Vec<(&'static str, T)>,
+    ) -> Program<T> {
+        Program { prints, lines, reference, wrong: wrong.len(), untold: wrong }
+    }
+
+    /// The wrong ones that the program hasn't been told from.
+    pub fn untold(&self) -> Vec<&'static str> {
+        self.untold.iter().map(|(name, _)| *name).collect()
+    }
+
+    /// What the program prints of the input, if it is what the reference prints; else the first
+    /// difference in words.
+    pub fn printed(&mut self, input: &[u8]) -> Result<Vec<u8>, String> {
+        let printed = (self.prints)(input)?;
+        self.untold.retain(|(_, wrong)| (self.lines)(wrong, input) == printed);
+        match first_difference(&(self.lines)(&self.reference, input), &printed) {
+            Some(difference) => Err(difference),
+            None => Ok(printed),
+        }
+    }
+}
+
+/// Runs the command. The input comes from a thread of its own, so that a program that prints
+/// before it has read all doesn't wait for us while we wait for it.
+fn output(command: &[String], input: &[u8]) -> io::Result<Output> {
+    let (program, arguments) = command.split_first().ok_or(io::ErrorKind::InvalidInput)?;
+    let mut child = Command::new(program)
+        .args(arguments)
+        .stdin(Stdio::piped())
+        .stdout(Stdio::piped())
+        .stderr(Stdio::piped())
+        .spawn()?;
+    let mut to = child.stdin.take().ok_or(io::ErrorKind::BrokenPipe)?;
+    thread::scope(|scope| {
+        // A program needn't read what comes after the end of its run.
+        scope.spawn(move || drop(to.write_all(input)));
+        child.wait_with_output()
+    })
+}
+
+fn first_difference(expected: &[u8], printed: &[u8]) -> Option<String> {
+    let [expected, printed] = [expected, printed].map(|bytes| bytes.split(|byte| *byte == b'\n'));
+    let [expected, printed] = [expected, printed].map(|lines| lines.collect::<Vec<&[u8]>>());
+    let lines = expected.len().max(printed.len());
+    let line = (0..lines).find(|line| expected.get(*line) != printed.get(*line))?;
+    let [expected, printed] =
+        [expected, printed].map(|lines| lines.get(line).map(|line| shown(line)));
+    Some(format!("line {}: expected {expected:?}, printed {printed:?}", line + 1))
+}
+
+/// Bytes as text, the first of them: a wrong program may print anything.
+fn shown(bytes: &[u8]) -> String {
+    String::from_utf8_lossy(&bytes[..bytes.len().min(SHOWN_BYTES)]).into_owned()
+}

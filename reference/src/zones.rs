@@ -1,0 +1,132 @@
+//! Made tables with every zone and DST, and a calendar program compared with the reference's on
+//! them and on any table; and an almanac compared day by day.
+
+use crate::calendar::{self, Calendar, Dates};
+use crate::concatenation::{entry_table, some_entry};
+use crate::mutants::{wrong, WRONG_ALMANACS, WRONG_CALENDARS, WRONG_DATES};
+use crate::numbers::PAPER;
+use crate::program::{Prints, Program};
+use crate::random::{table_of, Random, ANY_UPDATE};
+use crate::reader::Reference;
+use crate::record::{dst_in_range, zone_in_range, Record, TimeFault, TimeUpdate};
+use crate::table::Shape;
+
+/// Base_Time's ends, both ends of 29 February 2024, and both sides of the New Year after it.
+const SECONDS: [u32; 6] = [
+    PAPER.first_base_time,
+    PAPER.last_base_time,
+    762_480_000,
+    762_566_399,
+    789_004_799,
+    789_004_800,
+];
+
+/// What a line shows of a record. A fault has neither zone nor DST.
+struct Shown {
+    base: u32,
+    zone_and_dst: Option<[u8; 2]>,
+}
+
+/// Every zone with every DST: an update at each of the seconds, and then a fault.
+fn every_zone() -> Vec<Shown> {
+    let bytes = || 0..=u8::MAX;
+    let mut all = Vec::new();
+    for zone in bytes().filter(|zone| zone_in_range(&PAPER, *zone)) {
+        for dst in bytes().filter(|dst| dst_in_range(*dst)) {
+            let ends = ends_of_2099(zone, dst);
+            let bases = SECONDS.iter().chain(&ends);
+            all.extend(bases.map(|base| Shown { base: *base, zone_and_dst: Some([zone, dst]) }));
+            all.push(Shown { base: ends[0], zone_and_dst: None });
+        }
+    }
+    all
+}
+
+/// The last second that has its local time in 2099, and the next; the last of all where all have.
+fn ends_of_2099(zone: u8, dst: u8) -> [u32; 2] {
+    let ahead = 900 * (i32::from(zone as i8) + i32::from(dst));
+    let last = PAPER.last_base_time;
+    let shown = last.saturating_add_signed(-ahead).min(last);
+    [shown, last.min(shown + 1)]
+}
+
+fn record(shown: &Shown, sequence: u16) -> Record {
+    let base = shown.base;
+    match shown.zone_and_dst {
+        Some([zone, dst]) => Record::Update(TimeUpdate { sequence, zone, dst, base, ..ANY_UPDATE }),
+        None => {
+            let TimeUpdate { status, old_status, fault_count, old_base, .. } = ANY_UPDATE;
+            Record::Fault(TimeFault { sequence, status, old_status, fault_count, base, old_base })
+        }
+    }
+}
+
+/// A full table, wrapped, whose numbers roll over where it is wrapped.
+fn full_table(shown: &[Shown]) -> Vec<u8> {
+    let slots = shown.len();
+    let half = slots / 2;
+    let mut left = shown.iter();
+    let shape = Shape { slots, held: slots, oldest: slots - half, next: (slots - half) as u16 };
+    table_of(shape, |sequence| record(left.next().expect("as many as slots"), sequence))
+}
+
+/// Calendar and almanac beside the reference.
+pub struct Comparison {
+    pub calendar: Program<Calendar>,
+    pub almanac: Program<Dates>,
+}
+
+impl Comparison {
+    pub fn new(calendar: Prints, almanac: Prints) -> Comparison {
+        Comparison { calendar: calendar_program(calendar), almanac: almanac_program(almanac) }
+    }
+
+    /// The whole almanac. Answers how many days there are in it.
+    pub fn every_day(&mut self) -> Result<usize, String> {
+        let printed = self.almanac.printed(&[]);
+        let printed = printed.map_err(|difference| format!("in the almanac, {difference}"))?;
+        Ok(printed.split_inclusive(|byte| *byte == b'\n').count())
+    }
+
+    /// The calendar of every zone and DST, in full tables. Answers how many records there are.
+    pub fn every_zone(&mut self) -> Result<usize, String> {
+        let all = every_zone();
+        for (number, shown) in (1..).zip(all.chunks(PAPER.most_slots)) {
+            let printed = self.calendar.printed(&full_table(shown));
+            printed.map_err(|difference| {
+                format!("a difference on table {number} of every zone and DST:\n{difference}")
+            })?;
+        }
+        Ok(all.len())
+    }
+
+    /// The calendar of this many made tables, up to the first difference.
+    pub fn made_tables(&mut self, seed: u64, runs: usize) -> Result<(), String> {
+        let mut random = Random::new(seed);
+        for _ in 0..runs {
+            let entry = some_entry(&mut random);
+            let printed = self.calendar.printed(&entry_table(&entry));
+            printed.map_err(|difference| {
+                format!("a difference on this entry's table:\n  {entry:02X?}\n{difference}")
+            })?;
+        }
+        Ok(())
+    }
+}
+
+fn calendar_program(prints: Prints) -> Program<Calendar> {
+    let with_dates = |(name, dates)| (name, Calendar { dates, ..calendar::PAPER });
+    let dates = wrong(WRONG_DATES, &calendar::PAPER.dates);
+    let mut wrong = wrong(WRONG_CALENDARS, &calendar::PAPER);
+    wrong.extend(dates.into_iter().map(with_dates));
+    let lines =
+        |calendar: &Calendar, table: &[u8]| calendar.lines(&Reference::new(), table).into_bytes();
+    Program::new(prints, lines, calendar::PAPER, wrong)
+}
+
+/// It reads nothing.
+fn almanac_program(prints: Prints) -> Program<Dates> {
+    let dates = calendar::PAPER.dates;
+    let wrong = [wrong(WRONG_DATES, &dates), wrong(WRONG_ALMANACS, &dates)].concat();
+    Program::new(prints, |dates, _| dates.almanac().into_bytes(), dates, wrong)
+}
