@@ -1,7 +1,7 @@
-//! Made tables with every zone and DST, and a calendar program compared with the reference's on
-//! them and on any table; and an almanac compared day by day.
+//! Made tables with every zone and DST, and every month, and a calendar program compared with the
+//! reference's on them and on any table; and an almanac compared day by day.
 
-use crate::calendar::{self, Calendar, Dates};
+use crate::calendar::{self, Calendar, Date, Dates};
 use crate::concatenation::{entry_table, some_entry};
 use crate::mutants::{wrong, WRONG_ALMANACS, WRONG_CALENDARS, WRONG_DATES};
 use crate::numbers::PAPER;
@@ -42,9 +42,24 @@ fn every_zone() -> Vec<Shown> {
     all
 }
 
+/// Every month of Base_Time's years: its first second where that is still the month before, and the
+/// second before it where that is already the month.
+fn every_month() -> Vec<Shown> {
+    let months = (2020..=2099).flat_map(|year| (1..=12).map(move |month| (year, month)));
+    let firsts = months.filter_map(|(year, month)| {
+        let first = Date { year, month, day: 1, hour: 0, minute: 0, second: 0 };
+        calendar::PAPER.dates.seconds(&first)
+    });
+    let hour_east_or_west = |first: u32| {
+        [(first, 0xFC), (PAPER.first_base_time.max(first - 1), 0x04)]
+            .map(|(base, zone)| Shown { base, zone_and_dst: Some([zone, 0]) })
+    };
+    firsts.flat_map(hour_east_or_west).collect()
+}
+
 /// The last second that has its local time in 2099, and the next; the last of all where all have.
 fn ends_of_2099(zone: u8, dst: u8) -> [u32; 2] {
-    let ahead = 900 * (i32::from(zone as i8) + i32::from(dst));
+    let ahead = calendar::QUARTER_SECONDS * (i32::from(zone as i8) + i32::from(dst));
     let last = PAPER.last_base_time;
     let shown = last.saturating_add_signed(-ahead).min(last);
     [shown, last.min(shown + 1)]
@@ -88,13 +103,14 @@ impl Comparison {
         Ok(printed.split_inclusive(|byte| *byte == b'\n').count())
     }
 
-    /// The calendar of every zone and DST, in full tables. Answers how many records there are.
-    pub fn every_zone(&mut self) -> Result<usize, String> {
-        let all = every_zone();
+    /// The calendar of every zone and DST and every month, in full tables. Answers how many records
+    /// there are.
+    pub fn every_zone_and_month(&mut self) -> Result<usize, String> {
+        let all: Vec<Shown> = every_zone().into_iter().chain(every_month()).collect();
         for (number, shown) in (1..).zip(all.chunks(PAPER.most_slots)) {
             let printed = self.calendar.printed(&full_table(shown));
             printed.map_err(|difference| {
-                format!("a difference on table {number} of every zone and DST:\n{difference}")
+                format!("a difference on table {number} of zones and months:\n{difference}")
             })?;
         }
         Ok(all.len())

@@ -238,10 +238,10 @@ fn comparison(change: fn(String) -> String) -> Comparison {
 fn the_programs_are_told_from_every_wrong_one() {
     let mut comparison = comparison(|lines| lines);
     assert_eq!(comparison.every_day(), Ok(36_525));
-    assert_eq!(comparison.every_zone(), Ok(106 * 5 * 9));
-    assert_eq!(comparison.made_tables(1, 60), Ok(()));
+    assert_eq!(comparison.every_zone_and_month(), Ok(106 * 5 * 9 + 80 * 12 * 2));
     let untold = [comparison.almanac.untold(), comparison.calendar.untold()].concat();
     assert!(untold.is_empty(), "not noticed: {untold:?}");
+    assert_eq!(comparison.made_tables(1, 60), Ok(()));
 }
 
 /// Each part notices by itself what it is there for.
@@ -256,7 +256,7 @@ fn a_program_wrong_in_one_line_is_noticed() {
         format!("in the almanac, line 35124: expected Some({line:?}), printed Some({printed:?})");
     assert_eq!(comparison(one_day).every_day(), Err(expected));
     let last_second = |lines: String| lines.replace(" 2099-12-31 23:59:59\n", " ?\n");
-    assert!(comparison(last_second).every_zone().is_err());
+    assert!(comparison(last_second).every_zone_and_month().is_err());
     let refused = |lines: String| lines.replace("refused 1\n", "refused 2\n");
     assert!(comparison(refused).made_tables(1, 60).is_err());
     let rolled = |lines: String| lines.replace("\n0 1 ", "\n65536 1 ");

@@ -1,5 +1,6 @@
 //! The samples that come with the repository, held against the reference.
 
+use reference::calendar::calendar;
 use reference::heard::{asked, carried, joined};
 use reference::listing::listing;
 use reference::reader::{Reader, Reference};
@@ -28,13 +29,23 @@ fn text(path: &Path) -> String {
     fs::read_to_string(path).unwrap()
 }
 
-#[test]
-fn listings_are_the_references() {
+/// Every table has a file of this kind, made of the table alone.
+fn every_table_has(kind: &str, made: fn(&dyn Reader, &[u8]) -> String) {
     for path in files(|kind| kind == "table") {
         let table = fs::read(&path).unwrap();
-        let stored = text(&path.with_extension("listing"));
-        assert_eq!(listing(&Reference::new(), &table), stored, "{}", path.display());
+        let stored = text(&path.with_extension(kind));
+        assert_eq!(made(&Reference::new(), &table), stored, "{}", path.display());
     }
+}
+
+#[test]
+fn listings_are_the_references() {
+    every_table_has("listing", listing);
+}
+
+#[test]
+fn calendars_are_the_references() {
+    every_table_has("calendar", calendar);
 }
 
 /// Is it a report? p or c, and then the sizes.
