@@ -40,13 +40,20 @@ fn table_bytes(slots: usize) -> usize {
     HEADER_BYTES + SLOT_BYTES * slots
 }
 
+/// A sound table of so many slots.
+pub fn sound_entry(random: &mut Random, slots: usize) -> Entry {
+    let bytes = table_bytes(slots);
+    let table = some_plan(random, slots);
+    Entry { size: bytes as u32, table, damage: None, bytes: SIZE_BYTES + bytes }
+}
+
 /// A whole entry. Every third is damaged, which doesn't make every one unsound.
 fn whole_entry(random: &mut Random) -> Entry {
     let slots = some_slots(random);
-    let table = some_plan(random, slots);
+    let entry = sound_entry(random, slots);
     let damaged = random.one_in(3);
-    let damage = damaged.then(|| table_damage(random, &planned_table(&table))).flatten();
-    Entry { size: table_bytes(slots) as u32, table, damage, bytes: SIZE_BYTES + table_bytes(slots) }
+    let damage = damaged.then(|| table_damage(random, &planned_table(&entry.table))).flatten();
+    Entry { damage, ..entry }
 }
 
 /// An entry whose end is missing: the input stops inside its size, right after it, or inside its

@@ -2,7 +2,9 @@
 //! that are wrong in one: a comparison is worth what it notices of these.
 
 use crate::access::{matches, Filter};
-use crate::calendar::{self, known_dst, known_zone, Calendar, Dates};
+use crate::calendar::{
+    days_before_month, days_before_year, known_dst, known_zone, Calendar, Dates,
+};
 use crate::numbers::{Numbers, PAPER};
 use crate::reader::Reference;
 use crate::record::{self, Record};
@@ -215,20 +217,20 @@ pub const WRONG_DATES: &[Mutant<Dates>] = &[
 
 /// Years count from 1 March 1600, so that year 400 begins on 1 March 2000.
 fn without_2000(years: u32) -> u32 {
-    (calendar::PAPER.dates.days_before_year)(years) - u32::from(years >= 400)
+    days_before_year(years) - u32::from(years >= 400)
 }
 
 fn with_2001(years: u32) -> u32 {
-    (calendar::PAPER.dates.days_before_year)(years) + u32::from(years >= 401)
+    days_before_year(years) + u32::from(years >= 401)
 }
 
 fn without_2096(years: u32) -> u32 {
-    (calendar::PAPER.dates.days_before_year)(years) - u32::from(years >= 496)
+    days_before_year(years) - u32::from(years >= 496)
 }
 
 /// September is six months after March.
 fn early_autumn(months: u32) -> u32 {
-    (calendar::PAPER.dates.days_before_month)(months) - u32::from(months == 6)
+    days_before_month(months) - u32::from(months == 6)
 }
 
 /// Dates turned back to seconds wrongly, which the calendar never does.

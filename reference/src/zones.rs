@@ -2,7 +2,7 @@
 //! reference's on them and on any table; and an almanac compared day by day.
 
 use crate::calendar::{self, Calendar, Date, Dates};
-use crate::concatenation::{entry_table, some_entry};
+use crate::concatenation::{entry_table, some_entry, sound_entry};
 use crate::mutants::{wrong, WRONG_ALMANACS, WRONG_CALENDARS, WRONG_DATES};
 use crate::numbers::PAPER;
 use crate::program::{Prints, Program};
@@ -116,11 +116,16 @@ impl Comparison {
         Ok(all.len())
     }
 
-    /// The calendar of this many made tables, up to the first difference.
+    /// The calendar of this many made tables, up to the first difference. Every other one is sound
+    /// and of any number of slots; the rest are such as stand in concatenations, sound or not.
     pub fn made_tables(&mut self, seed: u64, runs: usize) -> Result<(), String> {
         let mut random = Random::new(seed);
-        for _ in 0..runs {
-            let entry = some_entry(&mut random);
+        for run in 0..runs {
+            let slots = 1 + random.below(PAPER.most_slots);
+            let entry = match run % 2 {
+                0 => sound_entry(&mut random, slots),
+                _ => some_entry(&mut random),
+            };
             let printed = self.calendar.printed(&entry_table(&entry));
             printed.map_err(|difference| {
                 format!("a difference on this entry's table:\n  {entry:02X?}\n{difference}")
