@@ -2,13 +2,13 @@
 -- Assumes nothing.
 use mathlib.Core.Path.{_≡_, refl, sym, ap, _∙_}
 use mathlib.Core.Bool.{Bool, true, false}
-use Prim.Native.Nat.{ℕ, _/_, _%_, _≤_}
+use Prim.Native.Nat.{ℕ, _/_, _≤_, _<_}
 use native.Mathlib.Omega.{arith}
-use borrow.Author.Tests.{leb-true}
+use borrow.Author.Tests.{leb-true, leb-false}
 use lib.Dec.{leb}
 use Rattle.octets.specs.Choice.{pick}
 use Rattle.rules.specs.Fields.{lastBaseTime}
-use Rattle.octets.proofs.Tests.{both-reads}
+use Rattle.octets.proofs.Tests.{clash}
 use Rattle.calendar_months.specs.Months.{daysIn}
 use Rattle.calendar_dates.specs.Dates.{dateOfSeconds, existsB, secondsTo, secondsOfDate}
 use Rattle.calendar_dates.specs.declared.dates.Date.{Date}
@@ -101,3 +101,21 @@ one-second s t d e f = sym (its-second s d e) ∙ its-second t d f
 pub one-date : (s : ℕ) (d e : Date) → secondsOfDate d ≡ Seconds s → secondsOfDate e ≡ Seconds s → d ≡ e
 unfolding dateIn
 one-date s d e f g = ap (dateIn d) (sym (back-and-there s d f) ∙ back-and-there s e g)
+
+-- for a caller that turns a second to its date and back: it has none only after 2099, and a date that was found turns back
+pub had-none : (s : ℕ) → dateOfSeconds s ≡ Outside → lastBaseTime < s
+unfolding onB
+had-none s e = by (leb s lastBaseTime) refl
+  where
+    by : (b : Bool) → leb s lastBaseTime ≡ b → lastBaseTime < s
+    by true t = absurd (clash (onB (dateOfSeconds s)) (ap onB (turns s (leb-true s lastBaseTime t) .dated)) (ap onB e))
+    by false t = leb-false s lastBaseTime t
+
+module _ (s : ℕ) (d : Date) (e : dateOfSeconds s ≡ On d) where
+  pub always-back : secondsOfDate d ≡ NoSuchDate → ⊥
+  unfolding secondsB
+  always-back f = clash (secondsB (secondsOfDate d)) (ap secondsB (there-and-back s d e)) (ap secondsB f)
+
+  pub back-is : (n : ℕ) → secondsOfDate d ≡ Seconds n → n ≡ s
+  unfolding secondsIn
+  back-is n f = ap secondsIn (sym f ∙ there-and-back s d e)
