@@ -5,6 +5,7 @@ pub mod OfServer
 pub mod OfBehind
 pub mod OfTablet
 pub mod OfBoundary
+pub mod OfCalendar
 pub mod OfPrograms
 pub mod Weaker
 pub mod OfEntries

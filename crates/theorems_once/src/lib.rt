@@ -3,6 +3,7 @@
 // bytes. `weaker`: promises that two outcomes meet.
 pub mod of_behind;
 pub mod of_boundary;
+pub mod of_calendar;
 pub mod of_entries;
 pub mod of_programs;
 pub mod of_records;
