@@ -1,2 +1,1 @@
-pub mod LocalLaws
 pub mod LineLaws

@@ -1,3 +1,2 @@
 pub mod Written
-pub mod Local
 pub mod Lines

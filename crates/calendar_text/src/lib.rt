@@ -1,4 +1,3 @@
-// What the log showed, on a calendar (change request E4): a date as it is written, `written`; a record's local time, `local`; its line, `lines`.
+// What the log showed, on a calendar (change request E4): a date as it is written, `written`; a record's line, `lines`.
 pub mod lines;
-pub mod local;
 pub mod written;

@@ -24,9 +24,9 @@ use Rattle.calendar_dates.specs.declared.dates.Date.{Date}
 use Rattle.calendar_dates.specs.declared.dates.Dated.the-variants.{On, Outside}
 use Rattle.calendar_dates.proofs.DateLaws.{dated-outside}
 use Rattle.calendar_dates.proofs.LostLaws.{turns}
-use Rattle.calendar_text.specs.Local.{inZone, localTime, localOf, localDate}
-use Rattle.calendar_text.specs.declared.local.LocalTime.the-variants.{At, Unknown}
-use Rattle.calendar_text.proofs.LocalLaws.{in-east, in-west, zone-unknown, dst-unknown, both-known}
+use Rattle.calendar_local.specs.Local.{inZone, localTime, localOf, localDate}
+use Rattle.calendar_local.specs.declared.local.LocalTime.the-variants.{At, Unknown}
+use Rattle.calendar_local.proofs.LocalLaws.{in-east, in-west, zone-unknown, dst-unknown, both-known}
 use Rattle.theorems_calendar.specs.Shown.{HeldIn, east, west, IsLocal}
 
 base-range : (b : ℕ) → baseB b ≡ true → (firstBaseTime ≤ b) × (b ≤ lastBaseTime)

@@ -15,7 +15,7 @@ use Rattle.calendar_dates.specs.declared.dates.Dated.{Dated}
 use Rattle.calendar_dates.specs.declared.dates.Dated.the-variants.{On, Outside}
 use Rattle.calendar_dates.specs.declared.dates.Reckoned.{Reckoned}
 use Rattle.calendar_dates.specs.declared.dates.Reckoned.the-variants.{Seconds, NoSuchDate}
-use Rattle.calendar_text.specs.Local.{inZone, localTime, localOf, localDate}
+use Rattle.calendar_local.specs.Local.{inZone, localTime, localOf, localDate}
 use Rattle.calendar_text.specs.Written.{dateText, datedText, numberText}
 use Rattle.calendar_text.specs.Lines.{numbersText, timesText, calendarLine}
 use Rattle.calendar_list.specs.Calendar.{calendarLines, calendarOf}

@@ -16,8 +16,8 @@ use Rattle.table.specs.Table.{held, soundB}
 use Rattle.calendar_dates.specs.Dates.{dateOfSeconds}
 use Rattle.calendar_dates.specs.declared.dates.Date.{Date}
 use Rattle.calendar_dates.specs.declared.dates.Dated.the-variants.{On, Outside}
-use Rattle.calendar_text.specs.Local.{localOf, localDate}
-use Rattle.calendar_text.specs.declared.local.LocalTime.the-variants.{At, Unknown}
+use Rattle.calendar_local.specs.Local.{localOf, localDate}
+use Rattle.calendar_local.specs.declared.local.LocalTime.the-variants.{At, Unknown}
 
 -- the record at some age
 pub record HeldIn (t : List ℕ) (r : Record) : Type 0 where

@@ -12,10 +12,10 @@ use Rattle.calendar_text.proofs.written.put_dated.Kinds as put-dated-kinds
 use Rattle.calendar_text.proofs.written.put_dated.Reads as put-dated-reads
 use Rattle.calendar_text.proofs.written.put_number_and.Kinds as put-number-and-kinds
 use Rattle.calendar_text.proofs.written.put_number_and.Reads as put-number-and-reads
-use Rattle.calendar_text.proofs.local.local_of.Kinds as local-of-kinds
-use Rattle.calendar_text.proofs.local.local_of.Reads as local-of-reads
-use Rattle.calendar_text.proofs.local.local_date.Kinds as local-date-kinds
-use Rattle.calendar_text.proofs.local.local_date.Reads as local-date-reads
+use Rattle.calendar_local.proofs.local.local_of.Kinds as local-of-kinds
+use Rattle.calendar_local.proofs.local.local_of.Reads as local-of-reads
+use Rattle.calendar_local.proofs.local.local_date.Kinds as local-date-kinds
+use Rattle.calendar_local.proofs.local.local_date.Reads as local-date-reads
 use Rattle.calendar_text.proofs.lines.put_record.Kinds as put-record-kinds
 use Rattle.calendar_text.proofs.lines.put_record.Reads as put-record-reads
 use Rattle.calendar_list.proofs.calendar.calendar.Kinds as calendar-kinds

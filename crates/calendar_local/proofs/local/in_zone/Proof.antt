@@ -1,11 +1,11 @@
 -- East of UTC, west of it, and before 2000, by LocalLaws.
 -- Assumes nothing.
 use mathlib.Core.Path.{sym}
-use Rattle.calendar_text.proofs.LocalLaws.{in-east, in-west, before-2000}
+use Rattle.calendar_local.proofs.LocalLaws.{in-east, in-west, before-2000}
 use borrow.Author.Needs.{needs}
 use native.Mathlib.Omega.{arith}
-use Rattle.calendar_text.proofs.local.in_zone.Statement.{statement}
-use Rattle.calendar_text.proofs.local.in_zone.Tie as tie
+use Rattle.calendar_local.proofs.local.in_zone.Statement.{statement}
+use Rattle.calendar_local.proofs.local.in_zone.Tie as tie
 
 mul-seconds : tie.Need-mul-seconds
 mul-seconds c = search needs

@@ -1,11 +1,11 @@
 -- The zone unknown, the DST unknown, or both known, by LocalLaws.
 -- Assumes nothing.
 use mathlib.Core.Path.{sym, _∙_}
-use Rattle.calendar_text.proofs.LocalLaws.{zone-unknown, dst-unknown, both-known}
+use Rattle.calendar_local.proofs.LocalLaws.{zone-unknown, dst-unknown, both-known}
 use borrow.Author.Needs.{needs}
 use native.Mathlib.Omega.{arith}
-use Rattle.calendar_text.proofs.local.local_time.Statement.{statement}
-use Rattle.calendar_text.proofs.local.local_time.Tie as tie
+use Rattle.calendar_local.proofs.local.local_time.Statement.{statement}
+use Rattle.calendar_local.proofs.local.local_time.Tie as tie
 
 returns : tie.Need-returns
 returns c = let a = c .before .args in sym (zone-unknown (a .base) (a .zone) (a .dst) (c .if1 .taken))

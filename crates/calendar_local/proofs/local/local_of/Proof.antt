@@ -1,11 +1,11 @@
 -- By the kind of the record.
 -- Assumes nothing.
 use mathlib.Core.Path.{sym, ap, _∙_}
-use Rattle.calendar_text.specs.Local.{localOf}
+use Rattle.calendar_local.specs.Local.{localOf}
 use borrow.Author.Needs.{needs}
 use native.Mathlib.Omega.{arith}
-use Rattle.calendar_text.proofs.local.local_of.Statement.{statement}
-use Rattle.calendar_text.proofs.local.local_of.Tie as tie
+use Rattle.calendar_local.proofs.local.local_of.Statement.{statement}
+use Rattle.calendar_local.proofs.local.local_of.Tie as tie
 
 enum-known-r : tie.Need-enum-known-r
 enum-known-r c = search needs

@@ -3,9 +3,9 @@
 use mathlib.Core.Path.{_≡_}
 use Prim.Native.Nat.{ℕ, _+_, _-_, _*_, _≤_, _<_}
 use borrow.Author.Tests.{lt-ltb, le-ltb, le-leb, lt-leb, eq-eqb, ne-eqb}
-use Rattle.calendar_text.specs.Local.{inZone, localTime}
-use Rattle.calendar_text.specs.declared.local.LocalTime.{LocalTime}
-use Rattle.calendar_text.specs.declared.local.LocalTime.the-variants.{At, Unknown}
+use Rattle.calendar_local.specs.Local.{inZone, localTime}
+use Rattle.calendar_local.specs.declared.local.LocalTime.{LocalTime}
+use Rattle.calendar_local.specs.declared.local.LocalTime.the-variants.{At, Unknown}
 
 module _ (s zone : ℕ) where
   pub in-east : zone < 128 → inZone s zone ≡ At (s + 900 * zone)

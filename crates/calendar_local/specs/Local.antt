@@ -8,8 +8,8 @@ use Rattle.record.specs.declared.kinds.Record.the-variants.{TimeUpdate, TimeFau
 use Rattle.calendar_dates.specs.Dates.{dateOfSeconds}
 use Rattle.calendar_dates.specs.declared.dates.Dated.{Dated}
 use Rattle.calendar_dates.specs.declared.dates.Dated.the-variants.{Outside}
-use Rattle.calendar_text.specs.declared.local.LocalTime.{LocalTime}
-use Rattle.calendar_text.specs.declared.local.LocalTime.the-variants.{At, Unknown}
+use Rattle.calendar_local.specs.declared.local.LocalTime.{LocalTime}
+use Rattle.calendar_local.specs.declared.local.LocalTime.the-variants.{At, Unknown}
 
 -- a second, and so many quarter hours more; the zone is a byte, in which those west of UTC have 256 added. Before 2000 there is no second.
 unfoldable pub inZone : ℕ → ℕ → LocalTime

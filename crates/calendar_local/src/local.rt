@@ -5,7 +5,7 @@ use record::kinds::Record;
 ghost use mathlib.Core.Path.{_≡_};
 ghost use Prim.Native.Nat.{_+_, _*_};
 ghost use Rattle.calendar_months.specs.Months.{monthStarts};
-ghost use Rattle.calendar_text.specs.Local.{inZone, localTime, localOf, localDate};
+ghost use Rattle.calendar_local.specs.Local.{inZone, localTime, localOf, localDate};
 
 const QUARTER_HOUR: u64 = 900;
 

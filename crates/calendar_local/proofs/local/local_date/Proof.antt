@@ -1,11 +1,11 @@
 -- By whether it is known.
 -- Assumes nothing.
 use mathlib.Core.Path.{sym, ap, _∙_}
-use Rattle.calendar_text.specs.Local.{localDate}
+use Rattle.calendar_local.specs.Local.{localDate}
 use borrow.Author.Needs.{needs}
 use native.Mathlib.Omega.{arith}
-use Rattle.calendar_text.proofs.local.local_date.Statement.{statement}
-use Rattle.calendar_text.proofs.local.local_date.Tie as tie
+use Rattle.calendar_local.proofs.local.local_date.Statement.{statement}
+use Rattle.calendar_local.proofs.local.local_date.Tie as tie
 
 enum-known-local : tie.Need-enum-known-local
 enum-known-local c = search needs

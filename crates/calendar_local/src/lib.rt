@@ -1,0 +1,2 @@
+// A record's local time (change request E4): `local`.
+pub mod local;
