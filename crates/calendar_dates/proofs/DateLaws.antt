@@ -1,7 +1,7 @@
 -- A date that exists, as facts that omega reads; a second and its date turn into each other.
 -- Assumes nothing.
-use mathlib.Core.Path.{_≡_, refl, sym, ap, _∙_}
-use mathlib.Core.Bool.{Bool, true, false}
+use mathlib.Core.Path.{_≡_, ap, _∙_}
+use mathlib.Core.Bool.{true, false}
 use Prim.Native.Nat.{ℕ, _+_, _-_, _*_, _/_, _%_, _≤_, _<_}
 use native.Mathlib.Omega.{arith}
 use borrow.Author.Tests.{leb-true, le-leb, lt-leb}
@@ -12,11 +12,9 @@ use Rattle.rules.specs.Fields.{lastBaseTime}
 use Rattle.calendar_months.specs.Months.{daysIn, monthLength, daysBefore}
 use Rattle.calendar_dates.specs.Dates.{MonthDay, monthDay, dayAfter, dateOn, dateOfSeconds, monthB, dayB, clockB, existsB, monthNumber, secondsTo, secondsOfDate}
 use Rattle.calendar_dates.specs.declared.dates.Date.{Date}
-use Rattle.calendar_dates.specs.declared.dates.Dated.{Dated}
 use Rattle.calendar_dates.specs.declared.dates.Dated.the-variants.{On, Outside}
-use Rattle.calendar_dates.specs.declared.dates.Reckoned.{Reckoned}
 use Rattle.calendar_dates.specs.declared.dates.Reckoned.the-variants.{Seconds, NoSuchDate}
-use Rattle.calendar_dates.proofs.DayLaws.{LiesIn, all-days, near, days-next, found, some-month}
+use Rattle.calendar_dates.proofs.DayLaws.{LiesIn, near, days-next, found}
 
 pub record Month (d : Date) : Type 0 where
   pub year-from : 2000 ≤ d .year

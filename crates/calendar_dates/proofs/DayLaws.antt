@@ -3,17 +3,17 @@
 use mathlib.Core.Path.{_≡_, refl, sym, ap, _∙_}
 use mathlib.Core.Bool.{Bool, true, false}
 use Prim.Native.Nat.{ℕ, zero, suc, _+_, _-_, _*_, _/_, _≤_, _<_}
-use native.Mathlib.Nat.{add-zero, zero-add, add-suc, suc-add, le-of-suc-le-suc, not-suc-le-zero}
+use native.Mathlib.Nat.{add-zero, zero-add, le-of-suc-le-suc, not-suc-le-zero}
 use native.Mathlib.Numerals.{add-one}
 use native.Mathlib.Omega.{arith}
 use borrow.Author.Tests.{leb-true, ltb-true, ltb-false, lt-ltb, le-ltb}
 use lib.Dec.{leb, ltb}
 use lib.ListN.{getD}
-use Rattle.octets.specs.Choice.{both, pick}
+use Rattle.octets.specs.Choice.{both}
 use Rattle.octets.proofs.Tests.{both-reads}
 use Rattle.calendar_months.specs.Months.{leapB, thirtyB, daysIn, monthLength, daysBefore, startsFrom, monthStarts}
 use Rattle.calendar_months.proofs.MonthLaws.{everyB, every-start, starts-at}
-use Rattle.calendar_dates.specs.Dates.{MonthDay, monthDay, dayFrom, dayAfter}
+use Rattle.calendar_dates.specs.Dates.{monthDay, dayFrom, dayAfter}
 
 last-entry : getD monthStarts 1200 0 ≡ 36525
 unfolding leapB thirtyB daysIn monthLength startsFrom monthStarts

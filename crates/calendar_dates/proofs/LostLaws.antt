@@ -9,14 +9,13 @@ use lib.Dec.{leb}
 use Rattle.octets.specs.Choice.{pick}
 use Rattle.rules.specs.Fields.{lastBaseTime}
 use Rattle.octets.proofs.Tests.{clash}
-use Rattle.calendar_months.specs.Months.{daysIn}
 use Rattle.calendar_dates.specs.Dates.{dateOfSeconds, existsB, secondsTo, secondsOfDate}
 use Rattle.calendar_dates.specs.declared.dates.Date.{Date}
 use Rattle.calendar_dates.specs.declared.dates.Dated.{Dated}
 use Rattle.calendar_dates.specs.declared.dates.Dated.the-variants.{On, Outside}
 use Rattle.calendar_dates.specs.declared.dates.Reckoned.{Reckoned}
 use Rattle.calendar_dates.specs.declared.dates.Reckoned.the-variants.{Seconds, NoSuchDate}
-use Rattle.calendar_dates.proofs.DayLaws.{LiesIn, all-days, some-month}
+use Rattle.calendar_dates.proofs.DayLaws.{all-days, some-month}
 use Rattle.calendar_dates.proofs.DateLaws.{Exists, exists-makes, exists-reads, its-date, dated, date-exists, date-back, reckoned, seconds-back}
 
 -- a second of the years has a date, which exists and turns back to it

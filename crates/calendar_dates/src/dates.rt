@@ -7,7 +7,7 @@ ghost use mathlib.Core.Path.{_≡_};
 ghost use mathlib.Core.Bool.{true};
 ghost use Prim.Native.Nat.{_+_, _≤_, _<_};
 ghost use Rattle.calendar_months.specs.Months.{daysBefore, monthStarts};
-ghost use Rattle.calendar_dates.specs.Dates.{monthB, dayB, clockB, existsB, monthNumber, dateOfSeconds, secondsOfDate, NothingLost};
+ghost use Rattle.calendar_dates.specs.Dates.{monthB, clockB, existsB, monthNumber, dateOfSeconds, secondsOfDate, NothingLost};
 
 const DAY: u64 = 86400;
 

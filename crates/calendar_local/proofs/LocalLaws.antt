@@ -4,7 +4,6 @@ use mathlib.Core.Path.{_≡_}
 use Prim.Native.Nat.{ℕ, _+_, _-_, _*_, _≤_, _<_}
 use borrow.Author.Tests.{lt-ltb, le-ltb, le-leb, lt-leb, eq-eqb, ne-eqb}
 use Rattle.calendar_local.specs.Local.{inZone, localTime}
-use Rattle.calendar_local.specs.declared.local.LocalTime.{LocalTime}
 use Rattle.calendar_local.specs.declared.local.LocalTime.the-variants.{At, Unknown}
 
 module _ (s zone : ℕ) where

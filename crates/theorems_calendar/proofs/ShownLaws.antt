@@ -5,17 +5,17 @@ use mathlib.Core.Bool.{Bool, true, false}
 use mathlib.Core.List.{List}
 use Prim.Native.Nat.{ℕ, _+_, _-_, _*_, _≤_, _<_}
 use native.Mathlib.Omega.{arith}
-use borrow.Author.Tests.{leb-true, leb-false, eqb-true, eqb-false, le-leb, lt-leb, eq-eqb, ne-eqb}
+use borrow.Author.Tests.{leb-true, leb-false, eqb-true, eqb-false, le-leb, lt-leb}
 use lib.Dec.{leb, eqb}
-use Rattle.octets.specs.Choice.{both, either, pick}
+use Rattle.octets.specs.Choice.{both, either}
 use Rattle.octets.proofs.Tests.{both-reads}
-use Rattle.rules.specs.Fields.{firstBaseTime, lastBaseTime, baseB, zoneB, dstB, sourceB, statusB}
+use Rattle.rules.specs.Fields.{firstBaseTime, lastBaseTime, baseB, zoneB, dstB, statusB}
 use Rattle.record.specs.Fields.{baseOf}
 use Rattle.record.specs.declared.kinds.Update.{Update}
 use Rattle.record.specs.declared.kinds.Fault.{Fault}
 use Rattle.record.specs.declared.kinds.Record.{Record}
 use Rattle.record.specs.declared.kinds.Record.the-variants.{TimeUpdate, TimeFault}
-use Rattle.record_read.specs.Reading.{updateB, faultB, recordB}
+use Rattle.record_read.specs.Reading.{updateB, recordB}
 use Rattle.record_read.proofs.RuleLaws.{update-rules, update-times, fault-rules}
 use Rattle.table.specs.Table.{soundB}
 use Rattle.table_look.proofs.KindLaws.{held-rules}
@@ -24,10 +24,9 @@ use Rattle.calendar_dates.specs.declared.dates.Date.{Date}
 use Rattle.calendar_dates.specs.declared.dates.Dated.the-variants.{On, Outside}
 use Rattle.calendar_dates.proofs.DateLaws.{dated-outside}
 use Rattle.calendar_dates.proofs.LostLaws.{turns}
-use Rattle.calendar_local.specs.Local.{inZone, localTime, localOf, localDate}
-use Rattle.calendar_local.specs.declared.local.LocalTime.the-variants.{At, Unknown}
+use Rattle.calendar_local.specs.Local.{inZone, localOf, localDate}
 use Rattle.calendar_local.proofs.LocalLaws.{in-east, in-west, zone-unknown, dst-unknown, both-known}
-use Rattle.theorems_calendar.specs.Shown.{HeldIn, east, west, IsLocal}
+use Rattle.theorems_calendar.specs.Shown.{HeldIn, IsLocal}
 
 base-range : (b : ℕ) → baseB b ≡ true → (firstBaseTime ≤ b) × (b ≤ lastBaseTime)
 unfolding baseB

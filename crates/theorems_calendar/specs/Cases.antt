@@ -1,6 +1,5 @@
 -- Dates and lines worked out by hand (change request E4), computed on the definitions that the promises cite.
 use mathlib.Core.Path.{_≡_}
-use mathlib.Core.Bool.{true, false}
 use mathlib.Core.List.{List, [], _∷_, _++_}
 use Prim.Native.Nat.{ℕ}
 use Rattle.record.specs.Fields.{sequenceOf, typeOf, baseOf}

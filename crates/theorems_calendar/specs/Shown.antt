@@ -17,7 +17,7 @@ use Rattle.calendar_dates.specs.Dates.{dateOfSeconds}
 use Rattle.calendar_dates.specs.declared.dates.Date.{Date}
 use Rattle.calendar_dates.specs.declared.dates.Dated.the-variants.{On, Outside}
 use Rattle.calendar_local.specs.Local.{localOf, localDate}
-use Rattle.calendar_local.specs.declared.local.LocalTime.the-variants.{At, Unknown}
+use Rattle.calendar_local.specs.declared.local.LocalTime.the-variants.{At}
 
 -- the record at some age
 pub record HeldIn (t : List ℕ) (r : Record) : Type 0 where

@@ -3,7 +3,6 @@
 use mathlib.Core.Path.{_≡_}
 use Rattle.calendar_months.specs.Months.{monthStarts}
 use borrow.Author.Needs.{needs}
-use native.Mathlib.Omega.{arith}
 use Rattle.dates.proofs.main.Statement.{statement}
 use Rattle.dates.proofs.main.Tie as tie
 

@@ -4,7 +4,6 @@ use mathlib.Core.Path.{sym}
 use lib.Seq.{length-take-le}
 use Rattle.text.proofs.LaidLaws.{laid-within}
 use borrow.Author.Needs.{needs}
-use native.Mathlib.Omega.{arith}
 use Rattle.dates.proofs.turn.Statement.{statement}
 use Rattle.dates.proofs.turn.Tie as tie
 

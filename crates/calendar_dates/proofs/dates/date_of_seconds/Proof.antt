@@ -1,6 +1,6 @@
 -- The month that is found is the one in which the day lies.
 -- Assumes nothing.
-use mathlib.Core.Path.{sym, _∙_}
+use mathlib.Core.Path.{sym}
 use Prim.Native.Nat.{_-_, _/_, _<_}
 use Rattle.calendar_months.proofs.MonthLaws.{length-between}
 use Rattle.calendar_dates.specs.Dates.{dateOn}

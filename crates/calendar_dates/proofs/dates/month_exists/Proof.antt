@@ -3,7 +3,6 @@
 use mathlib.Core.Path.{_∙_}
 use Rattle.calendar_dates.specs.Dates.{monthB}
 use borrow.Author.Needs.{needs}
-use native.Mathlib.Omega.{arith}
 use Rattle.calendar_dates.proofs.dates.month_exists.Statement.{statement}
 use Rattle.calendar_dates.proofs.dates.month_exists.Tie as tie
 use Rattle.octets.proofs.choice.both.Reads as both-reads

@@ -1,6 +1,5 @@
 -- Each direction undoes the other; the rest follows.
 -- Assumes nothing.
-use mathlib.Core.Path.{sym, ap, _∙_}
 use borrow.Author.Tests.{leb-true}
 use lib.Dec.{leb}
 use Rattle.octets.proofs.Tests.{both-reads}

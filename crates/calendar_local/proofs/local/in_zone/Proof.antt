@@ -3,7 +3,6 @@
 use mathlib.Core.Path.{sym}
 use Rattle.calendar_local.proofs.LocalLaws.{in-east, in-west, before-2000}
 use borrow.Author.Needs.{needs}
-use native.Mathlib.Omega.{arith}
 use Rattle.calendar_local.proofs.local.in_zone.Statement.{statement}
 use Rattle.calendar_local.proofs.local.in_zone.Tie as tie
 

@@ -3,7 +3,6 @@
 use mathlib.Core.Path.{sym, ap, _∙_}
 use Rattle.calendar_local.specs.Local.{localDate}
 use borrow.Author.Needs.{needs}
-use native.Mathlib.Omega.{arith}
 use Rattle.calendar_local.proofs.local.local_date.Statement.{statement}
 use Rattle.calendar_local.proofs.local.local_date.Tie as tie
 

@@ -3,7 +3,6 @@
 use mathlib.Core.Path.{sym, ap, _∙_}
 use Rattle.calendar_local.specs.Local.{localOf}
 use borrow.Author.Needs.{needs}
-use native.Mathlib.Omega.{arith}
 use Rattle.calendar_local.proofs.local.local_of.Statement.{statement}
 use Rattle.calendar_local.proofs.local.local_of.Tie as tie
 

@@ -3,7 +3,6 @@
 use mathlib.Core.Path.{sym, _∙_}
 use Rattle.calendar_local.proofs.LocalLaws.{zone-unknown, dst-unknown, both-known}
 use borrow.Author.Needs.{needs}
-use native.Mathlib.Omega.{arith}
 use Rattle.calendar_local.proofs.local.local_time.Statement.{statement}
 use Rattle.calendar_local.proofs.local.local_time.Tie as tie
 

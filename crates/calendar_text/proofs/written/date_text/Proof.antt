@@ -2,7 +2,6 @@
 -- Assumes nothing.
 use Rattle.calendar_text.specs.Written.{dateText}
 use borrow.Author.Needs.{needs}
-use native.Mathlib.Omega.{arith}
 use Rattle.calendar_text.proofs.written.date_text.Statement.{statement}
 use Rattle.calendar_text.proofs.written.date_text.Tie as tie
 use Rattle.calendar_text.proofs.written.ones.Reads as ones-reads

@@ -5,7 +5,6 @@ use Rattle.text.specs.Laid.{laid}
 use Rattle.calendar_dates.specs.declared.dates.Dated.{Dated}
 use Rattle.calendar_text.specs.Written.{datedText}
 use borrow.Author.Needs.{needs}
-use native.Mathlib.Omega.{arith}
 use Rattle.calendar_text.proofs.written.put_dated.Statement.{statement}
 use Rattle.calendar_text.proofs.written.put_dated.Tie as tie
 
