@@ -5,7 +5,7 @@
 
 use crate::mutants::{wrong, WRONG_SEASONS};
 use crate::numbers::PAPER;
-use crate::program::{Prints, Program};
+use crate::program::{Program, Run, Runs};
 use crate::random::{
     planned_table, shortest, some_plan, some_slots, table_damage, table_of, Plan, Random,
     ANY_UPDATE,
@@ -160,9 +160,9 @@ pub struct Comparison {
 }
 
 impl Comparison {
-    pub fn new(prints: Prints) -> Comparison {
+    pub fn new(runs: Runs) -> Comparison {
         let wrong = wrong(WRONG_SEASONS, &season::PAPER);
-        Comparison { program: Program::new(prints, figures, season::PAPER, wrong) }
+        Comparison { program: Program::new(runs, figures, season::PAPER, wrong) }
     }
 
     /// Gives the program this many made concatenations, and stops at the first difference, cut
@@ -203,8 +203,8 @@ impl Comparison {
     }
 }
 
-fn figures(season: &Season, input: &[u8]) -> Vec<u8> {
-    let mut figures = Vec::new();
-    season.run(input, &mut figures).expect("memory can be read and written");
-    figures
+fn figures(season: &Season, input: &[u8]) -> Run {
+    let mut printed = Vec::new();
+    season.run(input, &mut printed).expect("memory can be read and written");
+    Run { printed, complaint: None }
 }

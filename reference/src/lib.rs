@@ -21,6 +21,7 @@
 //! | `carry` | Carrying a stamp |
 //! | `listing` | the listing program's lines |
 //! | `calendar` | What the log showed, on a calendar |
+//! | `dates` | the lines of the program that turns seconds to dates and back |
 //! | `report` | the lines of a whole report over the air |
 //! | `heard` | lines with what a tablet makes of a report, and of stamps |
 //! | `season` | Season figures from all the readers |
@@ -32,8 +33,9 @@
 //! | `history` | made histories of one reader, with those books |
 //! | `program` | a program beside the reference, and told from wrong ones |
 //! | `concatenation` | made concatenations of tables, and a season program compared on them |
-//! | `zones` | made tables of every zone and DST, and calendar and almanac compared |
-//! | `mutants` | readers, season, calendar and almanac programs wrong in one number or step |
+//! | `zones` | made tables of every zone and DST, and a calendar program compared on them |
+//! | `days` | made seconds, both ends of every day among them, and a dates program compared on them |
+//! | `mutants` | readers, season, calendar and dates programs wrong in one number or step |
 //! | `archive` | the proved archive as a reader, behind a program |
 
 #![forbid(unsafe_code)]
@@ -44,6 +46,8 @@ pub mod calendar;
 pub mod carry;
 pub mod clock;
 pub mod concatenation;
+pub mod dates;
+pub mod days;
 pub mod heard;
 pub mod history;
 pub mod image;

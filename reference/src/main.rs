@@ -7,13 +7,15 @@
 //! `--season COMMAND` names a program that prints the figures of the tables on its standard input.
 //! `--runs N` (400), `--seed S` (1).
 //!
-//! `--calendar COMMAND --almanac COMMAND` names a program that prints the calendar of the table on
-//! its standard input, and one that prints the almanac. `--runs N` (60), `--seed S` (1).
+//! `--calendar COMMAND --dates COMMAND` names a program that prints the calendar of the table on its
+//! standard input, and one that turns the numbers there to dates and back. `--runs N` (60) of the
+//! first, `--seed S` (1).
 
 #![forbid(unsafe_code)]
 
 use reference::archive::Archive;
 use reference::concatenation;
+use reference::days;
 use reference::history::play;
 use reference::mutants::{spoiled, MUTANTS};
 use reference::program::{command, Program};
@@ -25,7 +27,7 @@ use std::process::ExitCode;
 
 const USAGE: &str = "usage: reference [--archive COMMAND] [--calls N] [--seed S]
        reference --season COMMAND [--runs N] [--seed S]
-       reference --calendar COMMAND --almanac COMMAND [--runs N] [--seed S]";
+       reference --calendar COMMAND --dates COMMAND [--runs N] [--seed S]";
 /// How many mutants the archive is compared with, and how many calls each may take.
 const MUTANTS_TRIED: usize = 15;
 const MUTANT_CALLS: usize = 60_000;
@@ -40,7 +42,7 @@ enum Other {
     Itself,
     Archive(Vec<String>),
     Season(Vec<String>),
-    Calendar { calendar: Vec<String>, almanac: Vec<String> },
+    Calendar { calendar: Vec<String>, dates: Vec<String> },
 }
 
 struct Arguments {
@@ -58,8 +60,10 @@ fn main() -> ExitCode {
     match other {
         Other::Itself => status(no_difference("itself", &Reference::new(), calls, seed)),
         Other::Season(season) => status(season_passes(season, runs.unwrap_or(SEASON_RUNS), seed)),
-        Other::Calendar { calendar, almanac } => {
-            status(calendar_passes(calendar, almanac, runs.unwrap_or(CALENDAR_RUNS), seed))
+        Other::Calendar { calendar, dates } => {
+            let runs = runs.unwrap_or(CALENDAR_RUNS);
+            let passed = [dates_pass(dates, seed), calendar_passes(calendar, runs, seed)];
+            status(passed == [true; 2])
         }
         Other::Archive(command) => match Archive::new(command) {
             Err(why) => {
@@ -88,9 +92,9 @@ fn arguments(mut words: impl Iterator<Item = String>) -> Option<Arguments> {
             "--archive" => arguments.other = Other::Archive(split(&value)),
             "--season" => arguments.other = Other::Season(split(&value)),
             "--calendar" => {
-                let almanac = words.next().filter(|name| name == "--almanac").and(words.next())?;
-                let (calendar, almanac) = (split(&value), split(&almanac));
-                arguments.other = Other::Calendar { calendar, almanac };
+                let dates = words.next().filter(|name| name == "--dates").and(words.next())?;
+                let (calendar, dates) = (split(&value), split(&dates));
+                arguments.other = Other::Calendar { calendar, dates };
             }
             "--calls" => arguments.calls = value.parse().ok()?,
             "--runs" => arguments.runs = Some(value.parse().ok()?),
@@ -180,22 +184,29 @@ fn season_passes(season: Vec<String>, runs: usize, seed: u64) -> bool {
     passed == [true; 2] && wrong_are_told("programs", &comparison.program)
 }
 
-/// The almanac, every zone and made tables; if there is no difference, what the comparison is worth.
-fn calendar_passes(calendar: Vec<String>, almanac: Vec<String>, runs: usize, seed: u64) -> bool {
-    let mut comparison = zones::Comparison::new(command(calendar), command(almanac));
-    let days = comparison.every_day();
+/// Every day, and inputs that end otherwise; if there is no difference, what the comparison is worth.
+fn dates_pass(dates: Vec<String>, seed: u64) -> bool {
+    let mut comparison = days::Comparison::new(command(dates));
+    let turned = comparison.every_day(seed).map(|(days, others)| {
+        format!("both ends of {days} days and {others} other seconds to dates and back")
+    });
+    let ended = comparison.cut_and_empty().map(|cut| format!("{cut} cut inputs and an empty one"));
+    let passed = [turned, ended].map(|found| told(found.map(|what| what + ": no difference")));
+    passed == [true; 2] && wrong_are_told("dates programs", &comparison.program)
+}
+
+/// Every zone and made tables; if there is no difference, what the comparison is worth.
+fn calendar_passes(calendar: Vec<String>, runs: usize, seed: u64) -> bool {
+    let mut comparison = zones::Comparison::new(command(calendar));
     let zones = comparison.every_zone_and_month();
     let made = comparison.made_tables(seed, runs);
     let passed = [
-        told(days.map(|days| format!("both ends of {days} days there and back: no difference"))),
         told(
             zones.map(|records| format!("{records} records, every zone and month: no difference")),
         ),
         told(made.map(|()| format!("{runs} tables from seed {seed}: no difference"))),
     ];
-    passed == [true; 3]
-        && wrong_are_told("almanacs", &comparison.almanac)
-        && wrong_are_told("calendars", &comparison.calendar)
+    passed == [true; 2] && wrong_are_told("calendars", &comparison.program)
 }
 
 /// Prints what was found; whether that was no difference.

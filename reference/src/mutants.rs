@@ -1,10 +1,11 @@
-//! Readers that are wrong in one number or one step each, and season, calendar and almanac programs
+//! Readers that are wrong in one number or one step each, and season, calendar and dates programs
 //! that are wrong in one: a comparison is worth what it notices of these.
 
 use crate::access::{matches, Filter};
 use crate::calendar::{
     days_before_month, days_before_year, known_dst, known_zone, Calendar, Dates,
 };
+use crate::dates::{is_cut, whole_numbers, Turning, NUMBER_BYTES};
 use crate::numbers::{Numbers, PAPER};
 use crate::reader::Reference;
 use crate::record::{self, Record};
@@ -233,17 +234,58 @@ fn early_autumn(months: u32) -> u32 {
     days_before_month(months) - u32::from(months == 6)
 }
 
-/// Dates turned back to seconds wrongly, which the calendar never does.
-pub const WRONG_ALMANACS: &[Mutant<Dates>] = &[
+/// What is not the calendar's: turning back, the numbers themselves, and the input's end.
+pub const WRONG_TURNINGS: &[Mutant<Turning>] = &[
     Mutant {
         name: "back to the minute",
-        spoil: |d| d.second_of_day = |date| 3_600 * date.hour + 60 * date.minute,
+        spoil: |t| t.dates.second_of_day = |date| 3_600 * date.hour + 60 * date.minute,
     },
     Mutant {
         name: "back by 24 minutes for 24 hours",
-        spoil: |d| d.second_of_day = |date| 60 * (date.hour + date.minute) + date.second,
+        spoil: |t| t.dates.second_of_day = |date| 60 * (date.hour + date.minute) + date.second,
     },
+    Mutant { name: "no line past 2099", spoil: |t| t.no_date = "" },
+    Mutant { name: "an empty line past 2099", spoil: |t| t.no_date = "\n" },
+    Mutant { name: "every number has a date", spoil: |t| t.dates.years = 2000..=u32::MAX },
+    Mutant { name: "numbers of 31 bits", spoil: |t| t.numbers = in_31_bits },
+    Mutant { name: "the highest byte first", spoil: |t| t.numbers = highest_byte_first },
+    Mutant { name: "the last number has no line", spoil: |t| t.numbers = without_last },
+    Mutant { name: "nothing is printed of cut input", spoil: |t| t.numbers = none_of_cut },
+    Mutant { name: "a cut number is filled up with 0", spoil: |t| t.numbers = filled_up },
+    Mutant { name: "cut input is not complained of", spoil: |t| t.complains = |_| false },
+    Mutant { name: "empty input is complained of", spoil: |t| t.complains = empty_or_cut },
 ];
+
+fn in_31_bits(input: &[u8]) -> Vec<u32> {
+    whole_numbers(input).into_iter().map(|number| number & (u32::MAX >> 1)).collect()
+}
+
+fn highest_byte_first(input: &[u8]) -> Vec<u32> {
+    whole_numbers(input).into_iter().map(u32::swap_bytes).collect()
+}
+
+fn without_last(input: &[u8]) -> Vec<u32> {
+    let mut numbers = whole_numbers(input);
+    numbers.pop();
+    numbers
+}
+
+fn none_of_cut(input: &[u8]) -> Vec<u32> {
+    if is_cut(input) {
+        return Vec::new();
+    }
+    whole_numbers(input)
+}
+
+fn filled_up(input: &[u8]) -> Vec<u32> {
+    let mut whole = input.to_vec();
+    whole.resize(input.len().next_multiple_of(NUMBER_BYTES), 0);
+    whole_numbers(&whole)
+}
+
+fn empty_or_cut(input: &[u8]) -> bool {
+    input.is_empty() || is_cut(input)
+}
 
 pub const WRONG_CALENDARS: &[Mutant<Calendar>] = &[
     Mutant { name: "the old base is shown", spoil: |c| c.base = |[.., old_base]| *old_base },

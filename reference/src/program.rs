@@ -1,5 +1,5 @@
 //! A program beside the reference: what it prints must be what the reference prints, byte for byte,
-//! and wrong programs are told from it by that.
+//! it must complain where the reference does, and wrong programs are told from it by that.
 
 use std::io::{self, Write};
 use std::process::{Command, Output, Stdio};
@@ -8,27 +8,43 @@ use std::thread;
 /// More than the longest line has.
 const SHOWN_BYTES: usize = 200;
 
-/// What a program prints of an input, or in words why its run doesn't count.
-pub type Prints = Box<dyn Fn(&[u8]) -> Result<Vec<u8>, String>>;
+/// What a program makes of an input.
+#[derive(Clone, Debug)]
+pub struct Run {
+    pub printed: Vec<u8>,
+    /// What it says on standard error. Its words are its own.
+    pub complaint: Option<String>,
+}
+
+impl Run {
+    pub fn without_complaint(lines: String) -> Run {
+        Run { printed: lines.into_bytes(), complaint: None }
+    }
+}
+
+/// A program's run on an input, or in words why it doesn't count.
+pub type Runs = Box<dyn Fn(&[u8]) -> Result<Run, String>>;
 
 /// The program that a command runs: its path, then its arguments. A run must end with status 0 and
-/// nothing on standard error.
-pub fn command(words: Vec<String>) -> Prints {
+/// nothing on standard error, or with status 1 and a complaint there: one that is stopped has
+/// another status.
+pub fn command(words: Vec<String>) -> Runs {
     Box::new(move |input| {
         let output = output(&words, input).map_err(|why| format!("it can't be run: {why}"))?;
-        if !output.status.success() || !output.stderr.is_empty() {
-            let error = shown(&output.stderr);
-            return Err(format!("{}, standard error {error:?}", output.status));
+        let (printed, error) = (output.stdout, shown(&output.stderr));
+        match (output.status.code(), error.is_empty()) {
+            (Some(0), true) => Ok(Run { printed, complaint: None }),
+            (Some(1), false) => Ok(Run { printed, complaint: Some(error) }),
+            _ => Err(format!("{}, standard error {error:?}", output.status)),
         }
-        Ok(output.stdout)
     })
 }
 
 /// A program, the steps that the reference takes to print the same, and the wrong steps that
 /// have printed the same so far.
 pub struct Program<T> {
-    prints: Prints,
-    lines: fn(&T, &[u8]) -> Vec<u8>,
+    runs: Runs,
+    expected: fn(&T, &[u8]) -> Run,
     reference: T,
     untold: Vec<(&'static str, T)>,
     /// How many wrong ones there were at first.
@@ -37,12 +53,12 @@ pub struct Program<T> {
 
 impl<T> Program<T> {
     pub fn new(
-        prints: Prints,
-        lines: fn(&T, &[u8]) -> Vec<u8>,
+        runs: Runs,
+        expected: fn(&T, &[u8]) -> Run,
         reference: T,
         wrong: Vec<(&'static str, T)>,
     ) -> Program<T> {
-        Program { prints, lines, reference, wrong: wrong.len(), untold: wrong }
+        Program { runs, expected, reference, wrong: wrong.len(), untold: wrong }
     }
 
     /// The wrong ones that the program hasn't been told from.
@@ -50,14 +66,15 @@ impl<T> Program<T> {
         self.untold.iter().map(|(name, _)| *name).collect()
     }
 
-    /// What the program prints of the input, if it is what the reference prints; else the first
-    /// difference in words.
+    /// What the program prints of the input, if it is what the reference prints and it complains
+    /// where it must; else the first difference in words.
     pub fn printed(&mut self, input: &[u8]) -> Result<Vec<u8>, String> {
-        let printed = (self.prints)(input)?;
-        self.untold.retain(|(_, wrong)| (self.lines)(wrong, input) == printed);
-        match first_difference(&(self.lines)(&self.reference, input), &printed) {
+        let run = (self.runs)(input)?;
+        let differs = |steps: &T| difference(&(self.expected)(steps, input), &run);
+        self.untold.retain(|(_, wrong)| differs(wrong).is_none());
+        match differs(&self.reference) {
             Some(difference) => Err(difference),
-            None => Ok(printed),
+            None => Ok(run.printed),
         }
     }
 }
@@ -78,6 +95,14 @@ fn output(command: &[String], input: &[u8]) -> io::Result<Output> {
         scope.spawn(move || drop(to.write_all(input)));
         child.wait_with_output()
     })
+}
+
+fn difference(expected: &Run, run: &Run) -> Option<String> {
+    match (&expected.complaint, &run.complaint) {
+        (None, Some(complaint)) => Some(format!("a complaint: {complaint:?}")),
+        (Some(_), None) => Some("no complaint, and one is due".to_string()),
+        _ => first_difference(&expected.printed, &run.printed),
+    }
 }
 
 fn first_difference(expected: &[u8], printed: &[u8]) -> Option<String> {

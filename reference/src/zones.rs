@@ -1,11 +1,11 @@
 //! Made tables with every zone and DST, and every month, and a calendar program compared with the
-//! reference's on them and on any table; and an almanac compared day by day.
+//! reference's on them and on any table.
 
-use crate::calendar::{self, Calendar, Date, Dates};
+use crate::calendar::{self, Calendar, Date};
 use crate::concatenation::{entry_table, some_entry, sound_entry};
-use crate::mutants::{wrong, WRONG_ALMANACS, WRONG_CALENDARS, WRONG_DATES};
+use crate::mutants::{wrong, WRONG_CALENDARS, WRONG_DATES};
 use crate::numbers::PAPER;
-use crate::program::{Prints, Program};
+use crate::program::{Program, Run, Runs};
 use crate::random::{table_of, Random, ANY_UPDATE};
 use crate::reader::Reference;
 use crate::record::{dst_in_range, zone_in_range, Record, TimeFault, TimeUpdate};
@@ -85,22 +85,18 @@ fn full_table(shown: &[Shown]) -> Vec<u8> {
     table_of(shape, |sequence| record(left.next().expect("as many as slots"), sequence))
 }
 
-/// Calendar and almanac beside the reference.
+/// A calendar program beside the reference.
 pub struct Comparison {
-    pub calendar: Program<Calendar>,
-    pub almanac: Program<Dates>,
+    pub program: Program<Calendar>,
 }
 
 impl Comparison {
-    pub fn new(calendar: Prints, almanac: Prints) -> Comparison {
-        Comparison { calendar: calendar_program(calendar), almanac: almanac_program(almanac) }
-    }
-
-    /// The whole almanac. Answers how many days there are in it.
-    pub fn every_day(&mut self) -> Result<usize, String> {
-        let printed = self.almanac.printed(&[]);
-        let printed = printed.map_err(|difference| format!("in the almanac, {difference}"))?;
-        Ok(printed.split_inclusive(|byte| *byte == b'\n').count())
+    pub fn new(runs: Runs) -> Comparison {
+        let with_dates = |(name, dates)| (name, Calendar { dates, ..calendar::PAPER });
+        let mut all = wrong(WRONG_CALENDARS, &calendar::PAPER);
+        let wrong_dates = wrong(WRONG_DATES, &calendar::PAPER.dates);
+        all.extend(wrong_dates.into_iter().map(with_dates));
+        Comparison { program: Program::new(runs, lines, calendar::PAPER, all) }
     }
 
     /// The calendar of every zone and DST and every month, in full tables. Answers how many records
@@ -108,7 +104,7 @@ impl Comparison {
     pub fn every_zone_and_month(&mut self) -> Result<usize, String> {
         let all: Vec<Shown> = every_zone().into_iter().chain(every_month()).collect();
         for (number, shown) in (1..).zip(all.chunks(PAPER.most_slots)) {
-            let printed = self.calendar.printed(&full_table(shown));
+            let printed = self.program.printed(&full_table(shown));
             printed.map_err(|difference| {
                 format!("a difference on table {number} of zones and months:\n{difference}")
             })?;
@@ -126,7 +122,7 @@ impl Comparison {
                 0 => sound_entry(&mut random, slots),
                 _ => some_entry(&mut random),
             };
-            let printed = self.calendar.printed(&entry_table(&entry));
+            let printed = self.program.printed(&entry_table(&entry));
             printed.map_err(|difference| {
                 format!("a difference on this entry's table:\n  {entry:02X?}\n{difference}")
             })?;
@@ -135,19 +131,6 @@ impl Comparison {
     }
 }
 
-fn calendar_program(prints: Prints) -> Program<Calendar> {
-    let with_dates = |(name, dates)| (name, Calendar { dates, ..calendar::PAPER });
-    let dates = wrong(WRONG_DATES, &calendar::PAPER.dates);
-    let mut wrong = wrong(WRONG_CALENDARS, &calendar::PAPER);
-    wrong.extend(dates.into_iter().map(with_dates));
-    let lines =
-        |calendar: &Calendar, table: &[u8]| calendar.lines(&Reference::new(), table).into_bytes();
-    Program::new(prints, lines, calendar::PAPER, wrong)
-}
-
-/// It reads nothing.
-fn almanac_program(prints: Prints) -> Program<Dates> {
-    let dates = calendar::PAPER.dates;
-    let wrong = [wrong(WRONG_DATES, &dates), wrong(WRONG_ALMANACS, &dates)].concat();
-    Program::new(prints, |dates, _| dates.almanac().into_bytes(), dates, wrong)
+fn lines(calendar: &Calendar, table: &[u8]) -> Run {
+    Run::without_complaint(calendar.lines(&Reference::new(), table))
 }

@@ -1,12 +1,14 @@
-//! The calendar, worked by hand from the papers' words; and the comparison of the programs that
-//! print it, tried on the reference's own lines and on wrong ones.
+//! The calendar, worked by hand from the papers' words; and the comparisons of the programs calendar
+//! and dates, tried on the reference's own lines and on wrong ones.
 
 mod by_hand;
 
 use by_hand::{full_table, FAULT, FIRST, LAST, UPDATE};
-use reference::calendar::{almanac, calendar, Date, PAPER};
+use reference::calendar::{calendar, Date, PAPER};
+use reference::dates::dates;
+use reference::program::{command, Run};
 use reference::reader::Reference;
-use reference::zones::Comparison;
+use reference::{days, zones};
 
 /// 2025-05-08 06:13:20.
 const PAPERS: u32 = 800_000_000;
@@ -196,17 +198,16 @@ fn days() -> Vec<[u32; 3]> {
 
 #[test]
 fn every_midnight_and_last_second_there_and_back() {
-    let mut expected = String::new();
     let days = days();
     for (first, [year, month, day]) in (0..).step_by(DAY as usize).zip(&days) {
         let last = first + DAY - 1;
         assert_eq!(seconds([*year, *month, *day, 0, 0, 0]), Some(first));
         assert_eq!(seconds([*year, *month, *day, 23, 59, 59]), Some(last));
-        let date = format!("{year}-{month:02}-{day:02}");
-        expected += &format!("{date} 00:00:00 {first} {date} 23:59:59 {last}\n");
+        let day = format!("{year}-{month:02}-{day:02}");
+        assert_eq!(date(first), format!("{day} 00:00:00"));
+        assert_eq!(date(last), format!("{day} 23:59:59"));
     }
     assert_eq!(days.len(), 36_525);
-    assert!(almanac() == expected);
 }
 
 #[test]
@@ -227,38 +228,118 @@ fn seconds_of_the_whole_range_there_and_back() {
     }
 }
 
-/// The reference's own calendar and almanac, with one thing changed of what they print.
-fn comparison(change: fn(String) -> String) -> Comparison {
-    let calendar = move |table: &[u8]| Ok(change(lines(table)).into_bytes());
-    let almanac = move |_: &[u8]| Ok(change(almanac()).into_bytes());
-    Comparison::new(Box::new(calendar), Box::new(almanac))
+/// Little endian: 800,000,000 is 0x2FAF0800, 631,152,000 is 0x259E9D80, 3,155,759,999 is 0xBC19137F.
+const NUMBERS: [u8; 24] = [
+    0x00, 0x08, 0xAF, 0x2F, 0x80, 0x9D, 0x9E, 0x25, 0x00, 0x00, 0x00, 0x00, 0x7F, 0x13, 0x19, 0xBC,
+    0x80, 0x13, 0x19, 0xBC, 0xFF, 0xFF, 0xFF, 0xFF,
+];
+
+fn printed(run: Run) -> String {
+    String::from_utf8(run.printed).unwrap()
 }
 
 #[test]
-fn the_programs_are_told_from_every_wrong_one() {
-    let mut comparison = comparison(|lines| lines);
-    assert_eq!(comparison.every_day(), Ok(36_525));
+fn numbers_to_dates_and_back() {
+    let run = dates(&NUMBERS);
+    assert_eq!(run.complaint, None);
+    let expected = "2025-05-08 06:13:20 800000000\n\
+                    2020-01-01 00:00:00 631152000\n\
+                    2000-01-01 00:00:00 0\n\
+                    2099-12-31 23:59:59 3155759999\n\
+                    ?\n\
+                    ?\n";
+    assert_eq!(printed(run), expected);
+}
+
+/// The whole numbers before it have their lines.
+#[test]
+fn input_that_stops_inside_a_number_is_complained_of() {
+    for (bytes, complaint) in [(0, false), (1, true), (2, true), (3, true), (4, false), (7, true)] {
+        let run = dates(&NUMBERS[..bytes]);
+        assert_eq!(run.complaint.is_some(), complaint, "{bytes} bytes");
+        let expected = if bytes < 4 { "" } else { "2025-05-08 06:13:20 800000000\n" };
+        assert_eq!(printed(run), expected, "{bytes} bytes");
+    }
+}
+
+/// The reference's own calendar, with one thing changed of what it prints.
+fn calendars(change: fn(String) -> String) -> zones::Comparison {
+    zones::Comparison::new(Box::new(move |table| Ok(Run::without_complaint(change(lines(table))))))
+}
+
+/// The reference's own dates, with one thing changed of a run.
+fn dates_programs(change: fn(Run) -> Run) -> days::Comparison {
+    days::Comparison::new(Box::new(move |input| Ok(change(dates(input)))))
+}
+
+#[test]
+fn the_calendar_is_told_from_every_wrong_one() {
+    let mut comparison = calendars(|lines| lines);
     assert_eq!(comparison.every_zone_and_month(), Ok(106 * 5 * 9 + 80 * 12 * 2));
-    let untold = [comparison.almanac.untold(), comparison.calendar.untold()].concat();
-    assert!(untold.is_empty(), "not noticed: {untold:?}");
+    assert_eq!(comparison.program.untold(), [""; 0]);
     assert_eq!(comparison.made_tables(1, 60), Ok(()));
+}
+
+/// 201 seconds around the end of 2099, the last of 2099 and of 13,185 days after it, 101 up to
+/// 4,294,967,295, 5,000 random ones.
+#[test]
+fn the_dates_program_is_told_from_every_wrong_one() {
+    let mut comparison = dates_programs(|run| run);
+    assert_eq!(comparison.every_day(1), Ok((36_525, 201 + 13_186 + 101 + 5_000)));
+    assert_eq!(comparison.cut_and_empty(), Ok(3));
+    assert_eq!(comparison.program.untold(), [""; 0]);
 }
 
 /// Each part notices by itself what it is there for.
 #[test]
-fn a_program_wrong_in_one_line_is_noticed() {
-    let shortened = |lines: String| lines.trim_end().to_string();
-    assert!(comparison(shortened).every_day().is_err());
-    let one_day = |lines: String| lines.replace("2096-02-29 23", "2096-03-01 23");
-    let line = "2096-02-29 00:00:00 3034627200 2096-02-29 23:59:59 3034713599";
-    let printed = line.replace("02-29 23", "03-01 23");
-    let expected =
-        format!("in the almanac, line 35124: expected Some({line:?}), printed Some({printed:?})");
-    assert_eq!(comparison(one_day).every_day(), Err(expected));
+fn a_calendar_wrong_in_one_line_is_noticed() {
     let last_second = |lines: String| lines.replace(" 2099-12-31 23:59:59\n", " ?\n");
-    assert!(comparison(last_second).every_zone_and_month().is_err());
+    assert!(calendars(last_second).every_zone_and_month().is_err());
     let refused = |lines: String| lines.replace("refused 1\n", "refused 2\n");
-    assert!(comparison(refused).made_tables(1, 60).is_err());
+    assert!(calendars(refused).made_tables(1, 60).is_err());
     let rolled = |lines: String| lines.replace("\n0 1 ", "\n65536 1 ");
-    assert!(comparison(rolled).made_tables(1, 60).is_err());
+    assert!(calendars(rolled).made_tables(1, 60).is_err());
+}
+
+#[test]
+fn a_dates_program_wrong_in_one_line_is_noticed() {
+    let one_day =
+        |run| Run::without_complaint(printed(run).replace("2096-02-29 23", "2096-03-01 23"));
+    let line = "2096-02-29 23:59:59 3034713599";
+    let wrong = line.replace("02-29", "03-01");
+    let differs = format!("line 70248: expected Some({line:?}), printed Some({wrong:?})");
+    let expected = format!("in the dates of every day, {differs}");
+    assert_eq!(dates_programs(one_day).every_day(1), Err(expected));
+    let shortened = |run| Run::without_complaint(printed(run).trim_end().to_string());
+    assert!(dates_programs(shortened).every_day(1).is_err());
+}
+
+/// No complaint where one is due, one where none is, the lines lost with it.
+#[test]
+fn a_dates_program_wrong_at_the_end_is_noticed() {
+    let silent = |run| Run { complaint: None, ..run };
+    let found = dates_programs(silent).cut_and_empty();
+    assert_eq!(found, Err("in the dates of 1 bytes, no complaint, and one is due".to_string()));
+    let complaining = |run| Run { complaint: Some("!".to_string()), ..run };
+    let found = dates_programs(complaining).cut_and_empty();
+    assert_eq!(found, Err("in the dates of 0 bytes, a complaint: \"!\"".to_string()));
+    let lost = |run: Run| match run.complaint {
+        None => run,
+        complaint => Run { printed: Vec::new(), complaint },
+    };
+    assert!(dates_programs(lost).cut_and_empty().is_err());
+}
+
+/// A complaint counts with status 1 alone, and status 1 with a complaint.
+#[test]
+fn how_a_command_ends() {
+    let ends = |script: &str| {
+        let words = ["sh", "-c", script].map(str::to_string);
+        command(words.to_vec())(&[]).map(|run| run.complaint)
+    };
+    assert_eq!(ends("exit 0"), Ok(None));
+    assert_eq!(ends("echo no >&2; exit 1"), Ok(Some("no\n".to_string())));
+    for script in ["exit 1", "echo no >&2", "echo no >&2; exit 139", "kill -9 $$"] {
+        assert!(ends(script).is_err(), "{script}");
+    }
 }
