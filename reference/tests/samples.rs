@@ -1,6 +1,7 @@
 //! The samples that come with the repository, held against the reference.
 
 use reference::calendar::calendar;
+use reference::dates::dates;
 use reference::heard::{asked, carried, joined};
 use reference::listing::listing;
 use reference::reader::{Reader, Reference};
@@ -110,5 +111,15 @@ fn season_figures_are_the_references() {
         season::PAPER.run(fs::File::open(&path).unwrap(), &mut figures).unwrap();
         let stored = text(&path.with_extension("figures"));
         assert_eq!(String::from_utf8(figures).unwrap(), stored, "{}", path.display());
+    }
+}
+
+#[test]
+fn dates_of_seconds_are_the_references() {
+    for path in files(|kind| kind == "seconds") {
+        let run = dates(&fs::read(&path).unwrap());
+        assert_eq!(run.complaint, None, "{}", path.display());
+        let stored = text(&path.with_extension("dates"));
+        assert_eq!(String::from_utf8(run.printed).unwrap(), stored, "{}", path.display());
     }
 }
