@@ -3,7 +3,7 @@
 
 use crate::calendar::DAY_SECONDS;
 use crate::dates::{self, Turning};
-use crate::mutants::{wrong, WRONG_DATES, WRONG_TURNINGS};
+use crate::mutants::{wrong_with_dates, WRONG_TURNINGS};
 use crate::numbers::PAPER;
 use crate::program::{Program, Runs};
 use crate::random::Random;
@@ -44,11 +44,9 @@ pub struct Comparison {
 
 impl Comparison {
     pub fn new(runs: Runs) -> Comparison {
-        let with_dates = |(name, dates)| (name, Turning { dates, ..dates::PAPER });
-        let mut all = wrong(WRONG_TURNINGS, &dates::PAPER);
-        let wrong_dates = wrong(WRONG_DATES, &dates::PAPER.dates);
-        all.extend(wrong_dates.into_iter().map(with_dates));
-        Comparison { program: Program::new(runs, Turning::run, dates::PAPER, all) }
+        let with = |dates| Turning { dates, ..dates::PAPER };
+        let wrong = wrong_with_dates(WRONG_TURNINGS, &dates::PAPER, with);
+        Comparison { program: Program::new(runs, Turning::run, dates::PAPER, wrong) }
     }
 
     /// Both ends of every day, and other seconds, in one run. Answers how many days and how many

@@ -3,7 +3,7 @@
 
 use crate::access::{matches, Filter};
 use crate::calendar::{
-    days_before_month, days_before_year, known_dst, known_zone, Calendar, Dates,
+    self, days_before_month, days_before_year, known_dst, known_zone, Calendar, Dates,
 };
 use crate::dates::{is_cut, whole_numbers, Turning, NUMBER_BYTES};
 use crate::numbers::{Numbers, PAPER};
@@ -65,6 +65,17 @@ impl<T: Clone> Mutant<T> {
 /// Each of them made of what is right, with its name.
 pub fn wrong<T: Clone>(mutants: &[Mutant<T>], right: &T) -> Vec<(&'static str, T)> {
     mutants.iter().map(|mutant| (mutant.name, mutant.of(right))).collect()
+}
+
+/// The wrong ones of a program that shows dates: its own, and those of the dates, put in by `with`.
+pub fn wrong_with_dates<T: Clone>(
+    own: &[Mutant<T>],
+    right: &T,
+    with: fn(Dates) -> T,
+) -> Vec<(&'static str, T)> {
+    let dates = wrong(WRONG_DATES, &calendar::PAPER.dates);
+    let dates = dates.into_iter().map(|(name, dates)| (name, with(dates)));
+    wrong(own, right).into_iter().chain(dates).collect()
 }
 
 /// The reference with that number or step spoiled.
@@ -191,7 +202,7 @@ fn add_last(total: &mut Figures, table: &Figures) {
 }
 
 /// Seconds turned to dates wrongly, whoever prints them.
-pub const WRONG_DATES: &[Mutant<Dates>] = &[
+const WRONG_DATES: &[Mutant<Dates>] = &[
     Mutant { name: "2000 is no leap year", spoil: |d| d.days_before_year = without_2000 },
     Mutant { name: "2001 is a leap year", spoil: |d| d.days_before_year = with_2001 },
     Mutant { name: "2096 is no leap year", spoil: |d| d.days_before_year = without_2096 },

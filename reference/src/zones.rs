@@ -3,7 +3,7 @@
 
 use crate::calendar::{self, Calendar, Date};
 use crate::concatenation::{entry_table, some_entry, sound_entry};
-use crate::mutants::{wrong, WRONG_CALENDARS, WRONG_DATES};
+use crate::mutants::{wrong_with_dates, WRONG_CALENDARS};
 use crate::numbers::PAPER;
 use crate::program::{Program, Run, Runs};
 use crate::random::{table_of, Random, ANY_UPDATE};
@@ -92,11 +92,9 @@ pub struct Comparison {
 
 impl Comparison {
     pub fn new(runs: Runs) -> Comparison {
-        let with_dates = |(name, dates)| (name, Calendar { dates, ..calendar::PAPER });
-        let mut all = wrong(WRONG_CALENDARS, &calendar::PAPER);
-        let wrong_dates = wrong(WRONG_DATES, &calendar::PAPER.dates);
-        all.extend(wrong_dates.into_iter().map(with_dates));
-        Comparison { program: Program::new(runs, lines, calendar::PAPER, all) }
+        let with = |dates| Calendar { dates, ..calendar::PAPER };
+        let wrong = wrong_with_dates(WRONG_CALENDARS, &calendar::PAPER, with);
+        Comparison { program: Program::new(runs, lines, calendar::PAPER, wrong) }
     }
 
     /// The calendar of every zone and DST and every month, in full tables. Answers how many records
