@@ -10,7 +10,7 @@ use Rattle.octets.specs.Choice.{both}
 use Rattle.octets.proofs.Tests.{both-reads, both-no}
 use Rattle.rules.specs.Fields.{lastBaseTime}
 use Rattle.calendar_months.specs.Months.{daysIn, monthLength, daysBefore}
-use Rattle.calendar_dates.specs.Dates.{MonthDay, monthDay, dayAfter, dateOn, dateOfSeconds, monthB, dayB, clockB, existsB, monthNumber, secondsTo, secondsOfDate}
+use Rattle.calendar_dates.specs.Dates.{MonthDay, monthDay, dayAfter, dateOn, dateOfSeconds, monthB, dayB, timeOfDayB, existsB, monthNumber, secondsTo, secondsOfDate}
 use Rattle.calendar_dates.specs.declared.dates.Date.{Date}
 use Rattle.calendar_dates.specs.declared.dates.Dated.the-variants.{On, Outside}
 use Rattle.calendar_dates.specs.declared.dates.Reckoned.the-variants.{Seconds, NoSuchDate}
@@ -26,7 +26,7 @@ pub record Day (d : Date) : Type 0 where
   pub from : 1 ≤ d .day
   pub to : d .day ≤ daysIn (d .year) (d .month)
 
-pub record Clock (d : Date) : Type 0 where
+pub record Time (d : Date) : Type 0 where
   pub hour : d .hour ≤ 23
   pub minute : d .minute ≤ 59
   pub second : d .second ≤ 59
@@ -47,10 +47,10 @@ month-reads d h =
 pub record Exists (d : Date) : Type 0 where
   pub of-month : Month d
   pub of-day : Day d
-  pub of-clock : Clock d
+  pub of-time : Time d
 
 pub exists-reads : (d : Date) → existsB d ≡ true → Exists d
-unfolding existsB dayB clockB
+unfolding existsB dayB timeOfDayB
 exists-reads d h =
     let a = both-reads (monthB d) _ h in
     let b = both-reads _ _ (a .1) in
@@ -60,15 +60,15 @@ exists-reads d h =
     record {
       of-month = month-reads d (a .0);
       of-day = record { from = leb-true _ _ (e .0); to = leb-true _ _ (e .1) };
-      of-clock = record { hour = leb-true _ _ (f .0); minute = leb-true _ _ (g .0); second = leb-true _ _ (g .1) };
+      of-time = record { hour = leb-true _ _ (f .0); minute = leb-true _ _ (g .0); second = leb-true _ _ (g .1) };
     }
 
 pub exists-makes : (d : Date) → Exists d → existsB d ≡ true
-unfolding existsB monthB dayB clockB
+unfolding existsB monthB dayB timeOfDayB
 exists-makes d e =
     let m = e .of-month in
     let y = e .of-day in
-    let t = e .of-clock in
+    let t = e .of-time in
     simp (
       le-leb _ _ (m .year-from),
       le-leb _ _ (m .year-to),
@@ -108,7 +108,7 @@ module _ (d : Date) (m : monthB d ≡ true) where
       let long : monthLength k ≡ daysIn (d .year) (d .month) = ap monthLength e ∙ number-length d (month-reads d m) in
       omega (arith, a, b, long, days-next k)
 
-  pub exists-by-length : {n : ℕ} → n ≡ daysIn (d .year) (d .month) → both (both (leb 1 (d .day)) (leb (d .day) n)) (clockB d) ≡ existsB d
+  pub exists-by-length : {n : ℕ} → n ≡ daysIn (d .year) (d .month) → both (both (leb 1 (d .day)) (leb (d .day) n)) (timeOfDayB d) ≡ existsB d
   unfolding existsB dayB
   exists-by-length e = rw (e, m)
 
@@ -156,7 +156,7 @@ module _ (s k : ℕ) (few : s ≤ lastBaseTime) (h : k < 1200) (l : LiesIn (s / 
       record {
         of-month = record { year-from = omega arith; year-to = omega arith; month-from = omega arith; month-to = omega arith };
         of-day = record { from = omega arith; to = omega (arith, day-of-month) };
-        of-clock = record { hour = omega arith; minute = omega arith; second = omega arith };
+        of-time = record { hour = omega arith; minute = omega arith; second = omega arith };
       }
 
   pub date-back : secondsTo its-date ≡ s
@@ -176,11 +176,11 @@ module _ (d : Date) (e : Exists d) where
 
   day-back : secondsTo d / 86400 ≡ daysBefore (monthNumber d) + (d .day - 1)
   unfolding secondsTo
-  day-back = omega (arith, e .of-clock)
+  day-back = omega (arith, e .of-time)
 
   rest-back : secondsTo d % 86400 ≡ 3600 * d .hour + (60 * d .minute + d .second)
   unfolding secondsTo
-  rest-back = omega (arith, e .of-clock)
+  rest-back = omega (arith, e .of-time)
 
   pub seconds-in : secondsTo d ≤ lastBaseTime
   seconds-in =
@@ -194,7 +194,7 @@ module _ (d : Date) (e : Exists d) where
   seconds-back =
       let k = monthNumber d in
       let m = e .of-month in
-      let t = e .of-clock in
+      let t = e .of-time in
       let r = rest-back in
       dated (secondsTo d) k seconds-in (number-small d m) lies
       ∙ ap On

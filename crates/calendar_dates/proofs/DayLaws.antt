@@ -22,8 +22,8 @@ last-entry = refl
 pub all-days : daysBefore 1200 ≡ 36525
 all-days = sym (starts-at 1200 (omega arith)) ∙ last-entry
 
--- A month of average length has 1,461 / 48 days. The days before a month are never two fewer than so many average months have, nor
--- do they ever exceed that by more than a month less a day.
+-- A month of average length has 1,461 / 48 days. The days before a month are at most two fewer than those of so many average months, and not as
+-- many more as an average month less a day.
 pub record Near (k days : ℕ) : Type 0 where
   pub least : 1461 * k ≤ 48 * days + 96
   pub most : 48 * days + 48 < 1461 * k + 1461

@@ -56,11 +56,11 @@ monthB d = both (both (leb 2000 (d .year)) (leb (d .year) 2099)) (both (leb 1 (d
 unfoldable pub dayB : Date → Bool
 dayB d = both (leb 1 (d .day)) (leb (d .day) (daysIn (d .year) (d .month)))
 
-unfoldable pub clockB : Date → Bool
-clockB d = both (leb (d .hour) 23) (both (leb (d .minute) 59) (leb (d .second) 59))
+unfoldable pub timeOfDayB : Date → Bool
+timeOfDayB d = both (leb (d .hour) 23) (both (leb (d .minute) 59) (leb (d .second) 59))
 
 unfoldable pub existsB : Date → Bool
-existsB d = both (monthB d) (both (dayB d) (clockB d))
+existsB d = both (monthB d) (both (dayB d) (timeOfDayB d))
 
 -- how many months after January 2000
 abbrev pub monthNumber : Date → ℕ

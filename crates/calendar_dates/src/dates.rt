@@ -7,7 +7,7 @@ ghost use mathlib.Core.Path.{_≡_};
 ghost use mathlib.Core.Bool.{true};
 ghost use Prim.Native.Nat.{_+_, _≤_, _<_};
 ghost use Rattle.calendar_months.specs.Months.{daysBefore, monthStarts};
-ghost use Rattle.calendar_dates.specs.Dates.{monthB, clockB, existsB, monthNumber, dateOfSeconds, secondsOfDate, NothingLost};
+ghost use Rattle.calendar_dates.specs.Dates.{monthB, timeOfDayB, existsB, monthNumber, dateOfSeconds, secondsOfDate, NothingLost};
 
 const DAY: u64 = 86400;
 
@@ -75,8 +75,8 @@ fn month_exists(date: Date) -> bool
     )
 }
 
-fn clock_exists(date: Date) -> bool
-    ensures { λ r. ⌜ r ≡ clockB date ⌝ }
+fn time_exists(date: Date) -> bool
+    ensures { λ r. ⌜ r ≡ timeOfDayB date ⌝ }
 {
     both(date.hour <= 23, both(date.minute <= 59, date.second <= 59))
 }
@@ -100,7 +100,7 @@ fn exists(starts: &[u32], date: Date) -> bool
     let days = days_before(starts, month + 1) - days_before(starts, month);
     both(
         both(1 <= date.day, date.day as u32 <= days),
-        clock_exists(date),
+        time_exists(date),
     )
 }
 

@@ -1,20 +1,10 @@
 -- A date and time as it is written (change request E4), `2025-05-08 06:13:20`. Text is ASCII: 48 is `0`, 45 is `-`, 32 a space, 58 is `:`, 63 is `?`.
 use mathlib.Core.List.{List, [], _∷_, _++_}
-use Prim.Native.Nat.{ℕ, _+_, _/_, _%_}
-use Rattle.text.specs.Line.{decimal}
+use Prim.Native.Nat.{ℕ, _/_}
+use Rattle.text.specs.Line.{decimal, twoDigits}
 use Rattle.calendar_dates.specs.declared.dates.Date.{Date}
 use Rattle.calendar_dates.specs.declared.dates.Dated.{Dated}
 use Rattle.calendar_dates.specs.declared.dates.Dated.the-variants.{On, Outside}
-
-abbrev pub tensDigit : ℕ → ℕ
-tensDigit n = 48 + n / 10 % 10
-
-abbrev pub onesDigit : ℕ → ℕ
-onesDigit n = 48 + n % 10
-
--- the last two digits of a number, zeros in front among them
-abbrev pub twoDigits : ℕ → List ℕ
-twoDigits n = tensDigit n ∷ onesDigit n ∷ []
 
 unfoldable pub dateText : Date → List ℕ
 dateText d =

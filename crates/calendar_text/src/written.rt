@@ -5,19 +5,19 @@ use text::put::put_number;
 use text::put::put_word;
 ghost use mathlib.Core.Path.{_≡_};
 ghost use mathlib.Core.List.{[], _∷_, _++_};
-ghost use Prim.Native.Nat.{_+_, _≤_};
+ghost use Prim.Native.Nat.{_+_, _/_, _%_, _≤_};
 ghost use lib.ListN.{length};
 ghost use Rattle.text.specs.Laid.{filled, laid};
-ghost use Rattle.calendar_text.specs.Written.{tensDigit, onesDigit, dateText, datedText, numberText};
+ghost use Rattle.calendar_text.specs.Written.{dateText, datedText, numberText};
 
 fn tens(n: u16) -> u8
-    ensures { λ r. ⌜ r ≡ tensDigit n ⌝ }
+    ensures { λ r. ⌜ r ≡ 48 + n / 10 % 10 ⌝ }
 {
     b'0' + (n / 10 % 10) as u8
 }
 
 fn ones(n: u16) -> u8
-    ensures { λ r. ⌜ r ≡ onesDigit n ⌝ }
+    ensures { λ r. ⌜ r ≡ 48 + n % 10 ⌝ }
 {
     b'0' + (n % 10) as u8
 }

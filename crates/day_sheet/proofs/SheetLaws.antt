@@ -11,13 +11,13 @@ use lib.Dec.{T}
 use lib.IntN.{ℤ, pos, negsuc, natAbs}
 use lib.ListN.{length, length-append}
 use lib.Signed.{ltZ, nonNeg}
-use Rattle.text.specs.Line.{fitted, decimal, digitsUpTo}
+use Rattle.text.specs.Line.{fitted, decimal, digitsUpTo, twoDigits}
 use Rattle.text.proofs.TextLaws.{fitted-short, fitted-then}
 use Rattle.text.proofs.DecimalLaws.{decimal-short, decimal-short-any}
 use Rattle.carry.specs.Stamp.{carryingNumber}
 use Rattle.carry.specs.declared.stamp.Carried.{Carried}
 use Rattle.carry.specs.declared.stamp.Carried.the-variants.{To, TableNotSound, NotHeld, FaultAmong}
-use Rattle.day_sheet.specs.Sheet.{twoDigits, timeOfDay, notedOf, signedOf, outcomeOf, carriedOf, shownText, gap, apartText, pairText, tagLine}
+use Rattle.day_sheet.specs.Sheet.{timeOfDay, notedOf, signedOf, outcomeOf, carriedOf, shownText, gap, apartText, pairText, tagLine}
 use Rattle.day_sheet.specs.declared.sheet.Shown.{Shown}
 use Rattle.day_sheet.specs.declared.sheet.Shown.the-variants.{Nothing, At, Before, Refused}
 use Rattle.day_sheet.specs.declared.sheet.Sight.{Sight}

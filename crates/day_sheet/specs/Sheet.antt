@@ -3,7 +3,7 @@
 use mathlib.Core.List.{List, [], _∷_, _++_}
 use Prim.Native.Nat.{ℕ, _+_, _-_, _/_, _%_}
 use lib.IntN.{ℤ, pos, negsuc}
-use Rattle.text.specs.Line.{decimal}
+use Rattle.text.specs.Line.{decimal, twoDigits}
 use Rattle.carry.specs.Stamp.{carryingNumber}
 use Rattle.carry.specs.declared.stamp.Carried.{Carried}
 use Rattle.carry.specs.declared.stamp.Carried.the-variants.{To, TableNotSound, NotHeld, FaultAmong}
@@ -11,10 +11,6 @@ use Rattle.day_sheet.specs.declared.sheet.Shown.{Shown}
 use Rattle.day_sheet.specs.declared.sheet.Shown.the-variants.{Nothing, At, Before, Refused}
 use Rattle.day_sheet.specs.declared.sheet.Sight.{Sight}
 use Rattle.day_sheet.specs.declared.sheet.Sight.the-variants.{Missed, Seen}
-
--- two digits
-unfoldable pub twoDigits : ℕ → List ℕ
-twoDigits n = (48 + n / 10 % 10) ∷ (48 + n % 10) ∷ []
 
 -- The time of day of a Base_Time, hh:mm:ss. Base_Time counts from a midnight, and a day has 86,400 seconds.
 unfoldable pub timeOfDay : ℕ → List ℕ

@@ -8,8 +8,8 @@ use text::line::with_number;
 use text::line::with_word;
 ghost use mathlib.Core.Path.{_≡_};
 ghost use mathlib.Core.List.{_++_};
-ghost use Rattle.text.specs.Line.{textOf, fitted};
-ghost use Rattle.day_sheet.specs.Sheet.{twoDigits, timeOfDay, notedOf, signedOf, outcomeOf, carriedOf, shownText, gap as Sheet·gap, apartText, pairText, tagLine, titleLine};
+ghost use Rattle.text.specs.Line.{textOf, fitted, twoDigits};
+ghost use Rattle.day_sheet.specs.Sheet.{timeOfDay, notedOf, signedOf, outcomeOf, carriedOf, shownText, gap as Sheet·gap, apartText, pairText, tagLine, titleLine};
 
 // What one antenna has of a tag: the stamp that it noted, and what carrying made of it.
 pub enum Sight {

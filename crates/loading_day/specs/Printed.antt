@@ -7,7 +7,7 @@ use Prim.Native.Nat.{ℕ}
 use Rattle.octets.specs.Parts.{zerosB, over}
 use Rattle.rules.specs.Fields.{baseB, zoneB, dstB, sourceB, statusB, bitsB}
 use Rattle.filter.specs.Filter.{matchesB}
-use Rattle.text.specs.Line.{digitsUpTo, decimal}
+use Rattle.text.specs.Line.{digitsUpTo, decimal, twoDigits}
 use Rattle.record.specs.Fields.{sequenceOf}
 use Rattle.record_write.specs.Layout.{updateBytes, faultBytes, bytesOf, updateRead, faultRead, recordOf, sizedB, shapeB}
 use Rattle.record_read.specs.Reading.{updateB, faultB, recordB, wellFormedB, readOf}
@@ -43,7 +43,7 @@ use Rattle.joining.specs.Joining.{emptyJoining, rangesB, filledB, placedB, foll
 use Rattle.keep.specs.Keep.{numbered, recordKept, keepOf, keepingNumber}
 use Rattle.carry.specs.Stamp.{laterOf, movedBy, carriedOver, carriedFrom, carryOf}
 use Rattle.carry.specs.Stamp as carries
-use Rattle.day_sheet.specs.Sheet.{twoDigits, timeOfDay, notedOf, signedOf, outcomeOf, carriedOf, shownText, gap, apartText, pairText, tagLine}
+use Rattle.day_sheet.specs.Sheet.{timeOfDay, notedOf, signedOf, outcomeOf, carriedOf, shownText, gap, apartText, pairText, tagLine}
 use Rattle.day_play.specs.Reader.{proposalBytes, startedOf, withClock, setOf, failedOf, livedOf}
 use Rattle.day_play.specs.Reader as readers
 use Rattle.day_play.specs.Play.{openedOf, steppedOf, playedOf}

@@ -26,3 +26,7 @@ digitsUpTo (suc k) n =
 -- n in decimal: no number of 64 bits has more than 20 digits
 unfoldable pub decimal : ℕ → List ℕ
 decimal n = digitsUpTo 20 n
+
+-- the last two digits of n, a zero in front among them
+unfoldable pub twoDigits : ℕ → List ℕ
+twoDigits n = (48 + n / 10 % 10) ∷ (48 + n % 10) ∷ []

@@ -5,10 +5,10 @@ use Prim.Native.Nat.{ℕ}
 use Rattle.record.specs.Fields.{sequenceOf, typeOf, baseOf}
 use Rattle.record.specs.declared.kinds.Record.{Record}
 use Rattle.record.specs.declared.kinds.Record.the-variants.{TimeUpdate, TimeFault}
-use Rattle.text.specs.Line.{digitsUpTo, decimal}
+use Rattle.text.specs.Line.{digitsUpTo, decimal, twoDigits}
 use Rattle.list_text.specs.Listing.{refusedLine, headLine}
 use Rattle.calendar_months.specs.Months.{leapB, thirtyB, daysIn, monthLength, daysBefore}
-use Rattle.calendar_dates.specs.Dates.{dayFrom, dayAfter, dateOn, dateOfSeconds, monthB, dayB, clockB, existsB, secondsTo, secondsOfDate}
+use Rattle.calendar_dates.specs.Dates.{dayFrom, dayAfter, dateOn, dateOfSeconds, monthB, dayB, timeOfDayB, existsB, secondsTo, secondsOfDate}
 use Rattle.calendar_dates.specs.declared.dates.Date.{Date}
 use Rattle.calendar_dates.specs.declared.dates.Dated.{Dated}
 use Rattle.calendar_dates.specs.declared.dates.Dated.the-variants.{On, Outside}
@@ -31,7 +31,7 @@ unfolding leapB thirtyB daysIn monthLength dayFrom dayAfter dateOn dateOfSeconds
 datedOpen s = dateOfSeconds s
 
 unfoldable pub reckonedOpen : Date → Reckoned
-unfolding leapB thirtyB daysIn monthLength daysBefore monthB dayB clockB existsB secondsTo secondsOfDate
+unfolding leapB thirtyB daysIn monthLength daysBefore monthB dayB timeOfDayB existsB secondsTo secondsOfDate
 reckonedOpen d = secondsOfDate d
 
 pub record Dates : Type 0 where
@@ -64,7 +64,7 @@ pub record Dates : Type 0 where
 
 -- a record's line, and a table's
 unfoldable pub lineOpen : Record → List ℕ
-unfolding datedOpen digitsUpTo decimal sequenceOf typeOf baseOf inZone localTime localOf localDate dateText datedText numberText numbersText timesText calendarLine
+unfolding datedOpen digitsUpTo decimal twoDigits sequenceOf typeOf baseOf inZone localTime localOf localDate dateText datedText numberText numbersText timesText calendarLine
 lineOpen r = calendarLine r
 
 unfoldable pub calendarOpen : List ℕ → List ℕ

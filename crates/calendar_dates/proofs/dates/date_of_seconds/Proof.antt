@@ -10,8 +10,6 @@ use borrow.Author.Needs.{needs}
 use native.Mathlib.Omega.{arith}
 use Rattle.calendar_dates.proofs.dates.date_of_seconds.Statement.{statement}
 use Rattle.calendar_dates.proofs.dates.date_of_seconds.Tie as tie
-use Rattle.calendar_dates.proofs.dates.month_of.Reads as month-of-reads
-use Rattle.calendar_months.proofs.months.days_before.Reads as days-before-reads
 
 -- a day of the month that was found
 short : (c : tie.After-days-before) → c .before .before .before .before .args .seconds / 86400 - c .days-before .result < 31

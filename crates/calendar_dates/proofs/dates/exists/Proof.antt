@@ -10,11 +10,6 @@ use borrow.Author.Needs.{needs}
 use native.Mathlib.Omega.{arith}
 use Rattle.calendar_dates.proofs.dates.exists.Statement.{statement}
 use Rattle.calendar_dates.proofs.dates.exists.Tie as tie
-use Rattle.calendar_dates.proofs.dates.clock_exists.Reads as clock-exists-reads
-use Rattle.calendar_dates.proofs.dates.month_exists.Reads as month-exists-reads
-use Rattle.calendar_dates.proofs.dates.month_number.Reads as month-number-reads
-use Rattle.calendar_months.proofs.months.days_before.Reads as days-before-reads
-use Rattle.octets.proofs.choice.both.Reads as both-reads
 
 good : (c : tie.Else1) → monthB (c .before .before .before .args .date) ≡ true
 good c = sym (c .before .month-exists .ensures) ∙ not-false _ (c .if1 .left)
@@ -50,8 +45,8 @@ cast-both c = search needs
 both-requires : tie.Need-both-requires
 both-requires c κs = search needs
 
-clock-exists-requires : tie.Need-clock-exists-requires
-clock-exists-requires c κs = search needs
+time-exists-requires : tie.Need-time-exists-requires
+time-exists-requires c κs = search needs
 
 both-requires-2 : tie.Need-both-requires-2
 both-requires-2 c κs = search needs
@@ -65,7 +60,7 @@ returns-2 c =
     let n = x .before in
     let d = n .before .before .before .before .args .date in
     c .both2 .ensures
-    ∙ rw (b .both .ensures, e .clock-exists .ensures)
+    ∙ rw (b .both .ensures, e .time-exists .ensures)
     (exists-by-length d (good (n .before))
     (step-length d (good (n .before)) (n .month-number .ensures .0) (x .days-before .ensures) (y .days-before2 .ensures)))
 
@@ -82,6 +77,6 @@ exists-spec =
     sub-days
     cast-both
     both-requires
-    clock-exists-requires
+    time-exists-requires
     both-requires-2
     returns-2)

@@ -5,7 +5,6 @@ use Rattle.calendar_dates.specs.Dates.{monthB}
 use borrow.Author.Needs.{needs}
 use Rattle.calendar_dates.proofs.dates.month_exists.Statement.{statement}
 use Rattle.calendar_dates.proofs.dates.month_exists.Tie as tie
-use Rattle.octets.proofs.choice.both.Reads as both-reads
 
 both-requires : tie.Need-both-requires
 both-requires c κs = search needs

@@ -7,7 +7,6 @@ use borrow.Author.Needs.{needs}
 use native.Mathlib.Omega.{arith}
 use Rattle.calendar_dates.proofs.dates.month_of.Statement.{statement}
 use Rattle.calendar_dates.proofs.dates.month_of.Tie as tie
-use Rattle.calendar_months.proofs.months.days_before.Reads as days-before-reads
 
 abbrev day : tie.After-days-before → ℕ
 day b = b .before .before .args .day

@@ -1,11 +1,10 @@
 -- Its digits one by one.
 -- Assumes nothing.
+use Rattle.text.specs.Line.{twoDigits}
 use Rattle.calendar_text.specs.Written.{dateText}
 use borrow.Author.Needs.{needs}
 use Rattle.calendar_text.proofs.written.date_text.Statement.{statement}
 use Rattle.calendar_text.proofs.written.date_text.Tie as tie
-use Rattle.calendar_text.proofs.written.ones.Reads as ones-reads
-use Rattle.calendar_text.proofs.written.tens.Reads as tens-reads
 
 cast-month : tie.Need-cast-month
 cast-month c = search needs
@@ -65,7 +64,7 @@ ones-requires-7 : tie.Need-ones-requires-7
 ones-requires-7 c κs = search needs
 
 returns : tie.Need-returns
-unfolding dateText
+unfolding twoDigits dateText
 returns c =
     let a = c .before in
     let b = a .before in

@@ -2,9 +2,9 @@
 -- Assumes nothing.
 use mathlib.Core.List.{[], _∷_, _++_}
 use Prim.Native.Nat.{_/_, _%_}
-use Rattle.text.specs.Line.{textOf}
+use Rattle.text.specs.Line.{textOf, twoDigits}
 use Rattle.text.proofs.TextLaws.{fitted-then}
-use Rattle.day_sheet.specs.Sheet.{twoDigits, timeOfDay}
+use Rattle.day_sheet.specs.Sheet.{timeOfDay}
 use borrow.Author.Needs.{needs}
 use Rattle.day_sheet.proofs.sheet.with_time.Statement.{statement}
 use Rattle.day_sheet.proofs.sheet.with_time.Tie as tie

@@ -1,9 +1,8 @@
 -- One digit after the other.
 -- Assumes nothing.
 use mathlib.Core.List.{[], _∷_}
-use Rattle.text.specs.Line.{textOf}
+use Rattle.text.specs.Line.{textOf, twoDigits}
 use Rattle.text.proofs.TextLaws.{fitted-then}
-use Rattle.day_sheet.specs.Sheet.{twoDigits}
 use borrow.Author.Needs.{needs}
 use Rattle.day_sheet.proofs.sheet.with_two.Statement.{statement}
 use Rattle.day_sheet.proofs.sheet.with_two.Tie as tie

@@ -1,9 +1,9 @@
 -- The lines, by computing them.
 -- Assumes nothing.
 use mathlib.Core.Path.{refl}
-use Rattle.text.specs.Line.{digitsUpTo, decimal}
+use Rattle.text.specs.Line.{digitsUpTo, decimal, twoDigits}
 use Rattle.carry.specs.Stamp.{carryingNumber}
-use Rattle.day_sheet.specs.Sheet.{twoDigits, timeOfDay, notedOf, signedOf, outcomeOf, carriedOf, shownText, gap, apartText, pairText, tagLine}
+use Rattle.day_sheet.specs.Sheet.{timeOfDay, notedOf, signedOf, outcomeOf, carriedOf, shownText, gap, apartText, pairText, tagLine}
 use Rattle.day_sheet.specs.Theorems.{Computed}
 use Rattle.day_sheet.proofs.theorems.computed.Statement.{statement}
 use Rattle.day_sheet.proofs.theorems.computed.Tie as tie
