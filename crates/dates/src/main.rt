@@ -15,7 +15,7 @@ ghost use Rattle.text.specs.Laid.{filled, laid};
 ghost use Rattle.calendar_months.specs.Months.{monthStarts};
 ghost use Rattle.dates.specs.Moments.{momentLine};
 
-// The run ends after so many.
+// A run is to end, whatever comes: after so many numbers it does.
 const MOST_NUMBERS: u32 = 4_294_967_295;
 
 // A date that was found turns back to a second: the arm in which it does not is never gone through.

@@ -88,9 +88,9 @@ module _ (u : Update) (known : u .zone ≡ 128 → ⊥) (summer : u .dst ≡ 255
           let past = leb-false (u .zone) 56 e in local-west (base-range (u .base) (rules .0) .0) past (zone-west (u .zone) (rules .1) known past)
 
 module _ (u : Update) (s : ℕ) (l : IsLocal u s) where
-  pub shown : s ≤ lastBaseTime → (d : Date) × (localDate (localOf (TimeUpdate u)) ≡ On d)
+  pub shown : s ≤ lastBaseTime → (d : Date) × (dateOfSeconds s ≡ On d) × (localDate (localOf (TimeUpdate u)) ≡ On d)
   unfolding localDate
-  shown h = let e = turns s h in (e .date, ap localDate (l .local) ∙ e .dated)
+  shown h = let e = turns s h in (e .date, e .dated, ap localDate (l .local) ∙ e .dated)
 
   pub too-late : lastBaseTime < s → localDate (localOf (TimeUpdate u)) ≡ Outside
   unfolding localDate

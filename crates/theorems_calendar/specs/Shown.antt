@@ -45,8 +45,9 @@ pub record OnTheCalendar : Type 0 where
   -- where zone and DST are known there is a local time
   pub local-time : (t : List ℕ) (u : Update) → soundB t ≡ true → HeldIn t (TimeUpdate u)
       → (u .zone ≡ 128 → ⊥) → (u .dst ≡ 255 → ⊥) → (s : ℕ) × IsLocal u s
-  -- and it is shown, unless it falls after 2099
-  pub shown : (u : Update) (s : ℕ) → IsLocal u s → s ≤ lastBaseTime → (d : Date) × (localDate (localOf (TimeUpdate u)) ≡ On d)
+  -- and its date is shown, unless it falls after 2099
+  pub shown : (u : Update) (s : ℕ) → IsLocal u s → s ≤ lastBaseTime
+      → (d : Date) × (dateOfSeconds s ≡ On d) × (localDate (localOf (TimeUpdate u)) ≡ On d)
   pub too-late : (u : Update) (s : ℕ) → IsLocal u s → lastBaseTime < s → localDate (localOf (TimeUpdate u)) ≡ Outside
   -- else it is `?`
   pub no-zone : (u : Update) → u .zone ≡ 128 → localDate (localOf (TimeUpdate u)) ≡ Outside
