@@ -10,7 +10,6 @@ use borrow.Author.Needs.{needs}
 use native.Mathlib.Omega.{arith}
 use Rattle.calendar_dates.proofs.dates.seconds_of_date.Statement.{statement}
 use Rattle.calendar_dates.proofs.dates.seconds_of_date.Tie as tie
-use Rattle.calendar_dates.proofs.dates.exists.Reads as exists-reads
 
 good : (c : tie.Else1) → existsB (c .before .before .before .args .date) ≡ true
 good c = sym (c .before .exists .ensures) ∙ not-false _ (c .if1 .left)
