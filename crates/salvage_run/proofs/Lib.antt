@@ -1,0 +1,4 @@
+pub mod SlotLaws
+pub mod OrderLaws
+pub mod PassLaws
+pub mod RunLaws
