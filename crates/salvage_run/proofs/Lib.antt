@@ -2,3 +2,4 @@ pub mod SlotLaws
 pub mod OrderLaws
 pub mod PassLaws
 pub mod RunLaws
+pub mod KeptLaws
