@@ -1,0 +1,2 @@
+// Salvage (docs/RULES.md): the call, `salvage`.
+pub mod salvage;
