@@ -27,9 +27,10 @@
  *      -2  the state is damaged, the log is sound. Keep the log: dts_start with the state and a spare table
  *          makes a new clock, and dts_fault with the kept table logs that the time was lost. Stamps from
  *          before are then refused with 13, as they must be.
- *      -1  the log is damaged. Leave the bytes as they are and tell the fitter, who may still read them; until
- *          then requests get DTS_ATT_UNLIKELY_ERROR. Starting anew is a person's choice: the numbers begin at
- *          0 again, so it is another reader from then on, and no stamp noted before may be carried over its log.
+ *      -1  the log is damaged. Leave the bytes as they are and tell the fitter, who may still read them or get a
+ *          log back from them (dts_salvage); until then requests get DTS_ATT_UNLIKELY_ERROR. Starting anew is a
+ *          person's choice: the numbers begin at 0 again, so it is another reader from then on, and no stamp noted
+ *          before may be carried over its log.
  * Store state and table together, as one write that is there whole or not at all, and before the response
  * goes out. Buffers of two moments can both be sound, and then the log does not show how the clock was set:
  * where you can't be sure that they belong together, call dts_fault. Seconds alone need no storing where your
@@ -124,7 +125,7 @@ extern "C" {
 
 /* This header's version: see VERSION above. */
 #define DTS_VERSION_MAJOR 4
-#define DTS_VERSION_MINOR 0
+#define DTS_VERSION_MINOR 1
 
 /* Sizes, in bytes. */
 enum {
@@ -142,11 +143,15 @@ enum {
     DTS_LARGEST_PAYLOAD = 244,    /* ..to this */
     DTS_DEVICE_TIME_BYTES = 10,
     DTS_FEATURE_BYTES = 4,
-    DTS_PARAMETERS_BYTES = 4
+    DTS_PARAMETERS_BYTES = 4,
+    DTS_REPORT_ENTRY_BYTES = 16   /* an entry of dts_salvage's report */
 };
 
 /* The bytes of a log table with so many slots: 80 for 1, 65,488 for 1,023. */
 #define DTS_TABLE_BYTES(slots) (DTS_HEADER_BYTES + DTS_SLOT_BYTES * (slots))
+
+/* Room for any report of dts_salvage on a table with so many slots: an entry for each, and for five header fields. */
+#define DTS_REPORT_BYTES(slots) (DTS_REPORT_ENTRY_BYTES * ((slots) + 5))
 
 /* Base_Time counts seconds since 2000-01-01, from 2020-01-01 to the last second of 2099. */
 #define DTS_FIRST_BASE_TIME UINT32_C(631152000)
@@ -155,11 +160,11 @@ enum {
 /* dts_notify adds this to the number of bytes where they close the report. */
 enum { DTS_CLOSING = 256 };
 
-/* Refusal numbers; an answer below 0 is minus one of these. There is no 9, and none from 14 to 22. */
+/* Refusal numbers; an answer below 0 is minus one of these. There is no 9, and none from 14 to 19 or 22. */
 enum {
     DTS_REFUSED_TABLE = 1,        /* the log table is not sound */
     DTS_REFUSED_STATE = 2,        /* the state has another length, another encoding, or breaks a rule */
-    DTS_REFUSED_OUTPUT = 3,       /* the output is too short, or p is outside 20 to 244 */
+    DTS_REFUSED_OUTPUT = 3,       /* an output is too short, or p is outside 20 to 244 */
     DTS_REFUSED_LENGTH = 4,       /* a control point write of 0 bytes or over 20 */
     DTS_REFUSED_SWITCHED_OFF = 5, /* the indications or notifications it needs are off */
     DTS_REFUSED_RUNNING = 6,      /* a report is running, and the write is no RACP Abort */
@@ -169,6 +174,8 @@ enum {
     DTS_REFUSED_RECORD = 11,      /* the bytes are not a well-formed record */
     DTS_REFUSED_NOT_HELD = 12,    /* a record logged after the stamp is no longer held */
     DTS_REFUSED_FAULT = 13,       /* a Time_Fault lies after the stamp */
+    DTS_REFUSED_SIZE = 20,        /* no log table has so many bytes */
+    DTS_REFUSED_NO_RECORD = 21,   /* a damaged log table without one well-formed record */
     DTS_REFUSED_NOT_NEXT = 23     /* the number of a record to be kept does not follow */
 };
 
@@ -409,7 +416,7 @@ int32_t dts_parameters(uint8_t *out, size_t out_length);
  */
 int32_t dts_att_error(uint32_t number);
 
-/* ---- The tablet: joining, reading, keeping, carrying ---- */
+/* ---- The tablet: joining, reading, keeping, carrying, salvage ---- */
 
 /*
  * Takes one notification of the log. The joining state is 48 bytes: 0 phase (0 empty, 1 a whole record,
@@ -444,6 +451,28 @@ int32_t dts_keep(uint8_t *table, size_t table_length, const uint8_t *record, siz
  * Refuses: 1, 12, 13.
  */
 int32_t dts_carry(uint32_t stamp, uint16_t q, const uint8_t *table, size_t table_length, int64_t *carried);
+
+/*
+ * Gets a log back from a table that may be damaged. A sound table comes back as it is, with an empty report. Of
+ * any other the longest run of well-formed records with numbers one after the other is kept, the last of equal
+ * ones, and written into a new table of the input's size; the report has an entry for each header field that is
+ * another now and for each slot that isn't kept (docs/FORMAT.md has the rules and the entries byte by byte).
+ * Answers the report's length in bytes: 0 to DTS_REPORT_BYTES of its slots. The table in `table` has as many bytes
+ * as the input. Stamps may be carried over it only where its newest record is the last one that the reader wrote.
+ * Refuses: 20, 21, 3 (table_length below input_length, or the report doesn't fit); of a sound table 3 alone.
+ */
+int32_t dts_salvage(const uint8_t *input, size_t input_length, uint8_t *table, size_t table_length,
+                    uint8_t *report, size_t report_length);
+
+/* An entry's first byte: a slot that isn't kept, or the header field that is another now. */
+enum {
+    DTS_ENTRY_SLOT = 0,           /* its place is in bytes 2-3 */
+    DTS_ENTRY_SLOTS = 1,          /* N; of a field the old value is in bytes 4-9, the new one in bytes 10-15 */
+    DTS_ENTRY_HELD = 2,           /* H */
+    DTS_ENTRY_OFFSET = 3,         /* the oldest record's offset */
+    DTS_ENTRY_NEXT = 4,           /* the next sequence number */
+    DTS_ENTRY_REST = 5            /* header bytes 10-15 */
+};
 
 #ifdef __cplusplus
 }

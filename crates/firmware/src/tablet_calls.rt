@@ -1,9 +1,11 @@
-// The tablet's calls: joining, reading, keeping, carrying.
+// The tablet's calls: joining, reading, keeping, carrying, salvage.
+use salvage_bytes::calls::salvage_at;
 use tablet_bytes::calls::carry_at;
 use tablet_bytes::calls::join_at;
 use tablet_bytes::calls::keep_at;
 use tablet_bytes::calls::read_at;
 ghost use mathlib.Core.Path.{_≡_};
+ghost use Rattle.salvage_bytes.specs.Calls.{salvagedBytes, salvageAt};
 ghost use Rattle.tablet_bytes.specs.Calls.{joined, joinAt, reading, readAt, keptBytes, keepAt, carrying, carryAt};
 
 // One notification joined. Refuses: 10, another length than 48 bytes too; then every byte lent becomes 0.
@@ -37,4 +39,12 @@ pub extern "C" fn dts_carry(stamp: u32, q: u16, table: &[u8], carried: &mut i64)
     ensures { λ r. ⌜ carrying r (now (carried .exit)) ≡ carryAt stamp q (now (table .entry)) (now (carried .entry)) ⌝ }
 {
     carry_at(stamp, q, table, carried)
+}
+
+// A log got back from a damaged table. Refuses: 20, 21, 3. Answers the report's length.
+#[no_mangle]
+pub extern "C" fn dts_salvage(input: &[u8], table: &mut [u8], report: &mut [u8]) -> i32
+    ensures { λ r. ⌜ salvagedBytes r (now (table .exit)) (now (report .exit)) ≡ salvageAt (now (input .entry)) (now (table .entry)) (now (report .entry)) ⌝ }
+{
+    salvage_at(input, table, report)
 }
