@@ -1,2 +1,3 @@
 pub mod IntLaws
 pub mod CarryLaws
+pub mod NewestLaws

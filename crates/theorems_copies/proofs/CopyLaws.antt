@@ -5,10 +5,10 @@ use mathlib.Core.Bool.{Bool, true, false}
 use mathlib.Core.List.{List, [], _∷_, _++_, map}
 use Prim.Native.Nat.{ℕ, zero, suc, _+_, _-_, _%_, _≤_, _<_}
 use native.Mathlib.Omega.{arith}
-use borrow.Author.Tests.{eq-eqb, eqb-true, le-leb, lt-leb, leb-true, leb-false}
-use lib.Dec.{eqb, leb}
+use borrow.Author.Tests.{eq-eqb, eqb-true}
+use lib.Dec.{eqb}
 use lib.ListN.{length, drop, length-append, length-drop}
-use lib.Seq.{drop-drop, drop-nil}
+use lib.Seq.{drop-nil}
 use Rattle.octets.specs.Choice.{either}
 use Rattle.octets.specs.Parts.{Bytes}
 use Rattle.octets.proofs.NumberLaws.{le16-small}
@@ -34,7 +34,7 @@ use Rattle.joining.specs.Joining.{emptyJoining, joinOf, joinedIn}
 use Rattle.joining.specs.declared.joining.Answer.{Answer}
 use Rattle.joining.specs.declared.joining.Answer.the-variants.{More, Whole, Refused}
 use Rattle.joining.specs.declared.joining.Joining.{Joining}
-use Rattle.carry.specs.Stamp.{laterOf, carriedFrom, carryOf}
+use Rattle.carry.proofs.NewestLaws.{carry-newest}
 use Rattle.theorems_reports.specs.World.{World, Call}
 use Rattle.theorems_reports.specs.Reports.{Accepted, reportBegun}
 use Rattle.theorems_reports.specs.Hearing.{hearingOf, undisturbedB}
@@ -77,27 +77,8 @@ unfolding slots
 each-bytes zero t o h = none
 each-bytes (suc n) t o h = more (bytes-slot t o h) (each-bytes n t (nextSlot (length t) o) h)
 
--- the newest m of the newest n, of which there are no more
-newest-newest : (m n : ℕ) (l : List Record) → m ≤ n → newest m (newest n l) ≡ newest m l
-newest-newest m n l h =
-    ap (λ (k : ℕ). drop (k - m) (newest n l)) (length-drop (length l - n) l)
-    ∙ drop-drop (length l - (length l - n) - m) (length l - n) l
-    ∙ ap (λ (k : ℕ). drop k l) (place (length l) m n h)
-  where
-    place : (k m n : ℕ) → m ≤ n → k - n + (k - (k - n) - m) ≡ k - m
-    place k m n h = omega arith
-
-newest-many : (m n : ℕ) (l : List Record) → m ≤ n → leb m (length (newest n l)) ≡ leb m (length l)
-newest-many m n l h = ap (leb m) (length-drop (length l - n) l) ∙ go (leb m (length l)) refl
-  where
-    go : (b : Bool) → leb m (length l) ≡ b → leb m (length l - (length l - n)) ≡ leb m (length l)
-    go true e = let x = leb-true m (length l) e in le-leb m _ (omega arith) ∙ sym e
-    go false e = let x = leb-false m (length l) e in lt-leb m _ (omega arith) ∙ sym e
-
 pub carried-over-copy : CarriedOverCopy
-unfolding carryOf carriedFrom
-carried-over-copy n t u sd k stamp q h =
-    rw (k .sound, sd, k .held, k .next, newest-many (laterOf (next t) q) n (held t) h, newest-newest (laterOf (next t) q) n (held t) h)
+carried-over-copy n t u sd k stamp q h = carry-newest stamp q n t u sd (k .sound) (k .held) (k .next) h
 
 -- a new table is ready for any number
 new-copy : (n s : ℕ) → 1 ≤ n → n ≤ 1023 → Holds n (fresh n) [] s

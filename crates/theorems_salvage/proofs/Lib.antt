@@ -1,0 +1,4 @@
+pub mod TableLaws
+pub mod TwiceLaws
+pub mod CarriedLaws
+pub mod NotedLaws

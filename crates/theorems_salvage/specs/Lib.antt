@@ -1,0 +1,3 @@
+pub mod Result
+pub mod Noted
+pub mod Carried
