@@ -141,10 +141,10 @@ kept-or-reported t h i small =
     record {
       either-or = noted-fields i t (newHeader t) _ ∙ noted-is n b (runOf t) n i 0 (omega arith) (omega arith) (omega arith);
       stands = λ k.
-      let turn = turnOf n b i in
-      let a = kept-reads n b (runOf t) i k in
-      let on : runOf t .first + (turn - runOf t .first) ≡ turn = omega (arith, a) in
-      slot-at t z (turn - runOf t .first) (omega (arith, a))
-      ∙ ap (λ (m : ℕ). cleaned (slotRead t m)) on
-      ∙ ap (λ (o : ℕ). cleaned (slot t o)) (turn-place t i z small);
+          let turn = turnOf n b i in
+          let a = kept-reads n b (runOf t) i k in
+          let on : runOf t .first + (turn - runOf t .first) ≡ turn = omega (arith, a) in
+          slot-at t z (turn - runOf t .first) (omega (arith, a))
+          ∙ ap (λ (m : ℕ). cleaned (slotRead t m)) on
+          ∙ ap (λ (o : ℕ). cleaned (slot t o)) (turn-place t i z small);
     }

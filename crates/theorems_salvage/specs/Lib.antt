@@ -1,3 +1,5 @@
 pub mod Result
 pub mod Noted
 pub mod Carried
+pub mod Answers
+pub mod Cases

@@ -2,6 +2,7 @@
 ghost use Rattle.theorems_salvage.specs.Result.{ComesBack, Twice};
 ghost use Rattle.theorems_salvage.specs.Noted.{KeptOrReported};
 ghost use Rattle.theorems_salvage.specs.Carried.{CarriesAlike};
+ghost use Rattle.theorems_salvage.specs.Answers.{AnswersWhen, AtBoundary};
 
 // The table that comes back is sound, and its records are those of the run, unaltered.
 pub fn comes_back()
@@ -21,4 +22,14 @@ pub fn kept_or_reported()
 // Carrying over the result answers as over the reader's table, where records and next number are those that the reader wrote.
 pub fn carries_alike()
     ensures { λ _. ⌜ CarriesAlike ⌝ }
+{}
+
+// Each refusal exactly where its row says so.
+pub fn answers()
+    ensures { λ _. ⌜ AnswersWhen ⌝ }
+{}
+
+// A refusal writes nothing; where it is done, the bytes past what is written stay, and the report is no longer than the header says.
+pub fn at_boundary()
+    ensures { λ _. ⌜ AtBoundary ⌝ }
 {}
