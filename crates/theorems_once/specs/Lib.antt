@@ -6,6 +6,7 @@ pub mod OfBehind
 pub mod OfTablet
 pub mod OfBoundary
 pub mod OfCalendar
+pub mod OfSalvage
 pub mod OfPrograms
 pub mod Weaker
 pub mod OfEntries

@@ -31,6 +31,8 @@ use Rattle.firmware.proofs.tablet_calls.dts_keep.Kinds as keep-kinds
 use Rattle.firmware.proofs.tablet_calls.dts_keep.Reads as keep-reads
 use Rattle.firmware.proofs.tablet_calls.dts_carry.Kinds as carry-kinds
 use Rattle.firmware.proofs.tablet_calls.dts_carry.Reads as carry-reads
+use Rattle.firmware.proofs.tablet_calls.dts_salvage.Kinds as salvage-kinds
+use Rattle.firmware.proofs.tablet_calls.dts_salvage.Reads as salvage-reads
 use Rattle.firmware.proofs.errors.dts_att_error.Kinds as att-error-kinds
 use Rattle.firmware.proofs.errors.dts_att_error.Reads as att-error-reads
 use Rattle.state_bytes.proofs.state.image_of.Kinds as image-of-kinds
@@ -54,6 +56,7 @@ pub record OneOutcome : Type 0 where
   pub read : Door read-kinds.ps read-kinds.r read-reads.Pre read-reads.Post
   pub keep : Door keep-kinds.ps keep-kinds.r keep-reads.Pre keep-reads.Post
   pub carry : Door carry-kinds.ps carry-kinds.r carry-reads.Pre carry-reads.Post
+  pub salvage : Door salvage-kinds.ps salvage-kinds.r salvage-reads.Pre salvage-reads.Post
   pub att-error : Door att-error-kinds.ps att-error-kinds.r att-error-reads.Pre att-error-reads.Post
   pub image-of : Only image-of-kinds.ps image-of-kinds.r image-of-reads.Pre image-of-reads.Post
   pub clock-of : Only clock-of-kinds.ps clock-of-kinds.r clock-of-reads.Pre clock-of-reads.Post

@@ -31,6 +31,8 @@ use Rattle.firmware.proofs.tablet_calls.dts_keep.Kinds as keep-kinds
 use Rattle.firmware.proofs.tablet_calls.dts_keep.Reads as keep-reads
 use Rattle.firmware.proofs.tablet_calls.dts_carry.Kinds as carry-kinds
 use Rattle.firmware.proofs.tablet_calls.dts_carry.Reads as carry-reads
+use Rattle.firmware.proofs.tablet_calls.dts_salvage.Kinds as salvage-kinds
+use Rattle.firmware.proofs.tablet_calls.dts_salvage.Reads as salvage-reads
 use Rattle.firmware.proofs.errors.dts_att_error.Kinds as att-error-kinds
 use Rattle.firmware.proofs.errors.dts_att_error.Reads as att-error-reads
 
@@ -50,4 +52,5 @@ pub record SomeOutcome : Type 0 where
   pub read : Some read-kinds.ps read-kinds.r read-reads.Post
   pub keep : Some keep-kinds.ps keep-kinds.r keep-reads.Post
   pub carry : Some carry-kinds.ps carry-kinds.r carry-reads.Post
+  pub salvage : Some salvage-kinds.ps salvage-kinds.r salvage-reads.Post
   pub att-error : Some att-error-kinds.ps att-error-kinds.r att-error-reads.Post

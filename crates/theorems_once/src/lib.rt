@@ -7,6 +7,7 @@ pub mod of_calendar;
 pub mod of_entries;
 pub mod of_programs;
 pub mod of_records;
+pub mod of_salvage;
 pub mod of_server;
 pub mod of_tables;
 pub mod of_tablet;

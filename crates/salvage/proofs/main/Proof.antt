@@ -17,16 +17,6 @@ front n xs ys h = simp (length-append, length-take) (omega arith)
 read-there : (c : tie.After-read-full) → c .read-full .result ≤ length (c .read-full .last .1 .0)
 read-there c = search needs
 
-table-there : (c : tie.After-tell) → c .tell .result .table ≤ length (c .tell .last .1 .0)
-table-there c =
-    let f = c .before .before .before .before .before .before .before .before .before .before .before in
-    let size : length (c .tell .last .1 .0) ≡ 65536 = search needs in
-    let few = table-within _ _ _ (c .tell .ensures) in
-    ?
-
-told-there : (c : tie.After-tell) → c .tell .result .told ≤ length (c .tell .last .1 .1 .0)
-told-there c = told-within _ _ _ (c .tell .ensures)
-
 large-buffer-requires : tie.Need-large-buffer-requires
 large-buffer-requires c κs = search needs
 
@@ -73,10 +63,10 @@ tell-requires : tie.Need-tell-requires
 tell-requires c κs = search needs
 
 array-share-prefix-table : tie.Need-array-share-prefix-table
-array-share-prefix-table c = table-there c
+array-share-prefix-table c = table-within _ _ _ (c .tell .ensures)
 
 slice-aggregate-write-all-2 : tie.Need-slice-aggregate-write-all-2
-slice-aggregate-write-all-2 c = sym (length-take-le _ _ (table-there (c .before)))
+slice-aggregate-write-all-2 c = sym (length-take-le _ _ (table-within _ _ _ (c .before .tell .ensures)))
 
 write-all-requires-2 : tie.Need-write-all-requires-2
 write-all-requires-2 c κs = search needs
@@ -91,10 +81,10 @@ returns-2 : tie.Need-returns-2
 returns-2 c = search needs
 
 array-share-prefix-out : tie.Need-array-share-prefix-out
-array-share-prefix-out c = told-there (c .before .before .before)
+array-share-prefix-out c = told-within _ _ _ (c .before .before .before .tell .ensures)
 
 slice-aggregate-write-all-4 : tie.Need-slice-aggregate-write-all-4
-slice-aggregate-write-all-4 c = sym (length-take-le _ _ (told-there (c .before .before .before .before)))
+slice-aggregate-write-all-4 c = sym (length-take-le _ _ (told-within _ _ _ (c .before .before .before .before .tell .ensures)))
 
 write-all-requires-4 : tie.Need-write-all-requires-4
 write-all-requires-4 c κs = search needs

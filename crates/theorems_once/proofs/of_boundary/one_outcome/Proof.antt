@@ -23,6 +23,7 @@ returns c =
       read = (λ κs a. tt, λ κs a x y u v h p q. split p q (λ w. w .result) (λ w. (tt, (w .fields, tt))));
       keep = (λ κs a. tt, λ κs a x y u v h p q. split p q (λ w. w .result) (λ w. (w .table, (tt, tt))));
       carry = (λ κs a. tt, λ κs a x y u v h p q. split p q (λ w. w .result) (λ w. (tt, (tt, (tt, (w .carried, tt))))));
+      salvage = (λ κs a. tt, λ κs a x y u v h p q. split p q (λ w. w .result) (λ w. (tt, (w .table, (w .report, tt)))));
       att-error = (λ κs a. tt, λ κs a x y u v h p q. (p ∙ sym q, refl));
       image-of = λ κs a x y u v h p q. (p ∙ sym q, refl);
       clock-of = λ κs a x y u v h p q. (p ∙ sym q, refl);

@@ -14,6 +14,7 @@ use Rattle.server_bytes.specs.Start.{startAt}
 use Rattle.server_bytes.specs.Events.{secondsAt, switchesAt, disconnectAt}
 use Rattle.server_bytes.specs.Calls.{Called, called, faultAt, dtcpAt, racpAt, notifyAt}
 use Rattle.server_bytes.specs.ValuesRead.{deviceTimeAt, featureAt, parametersAt}
+use Rattle.salvage_bytes.specs.Calls.{salvageAt}
 use Rattle.tablet_bytes.specs.Calls.{joinAt, readAt, keepAt, carryAt}
 use Rattle.firmware.specs.Errors.{attErrorAt}
 use Rattle.theorems_once.proofs.of_entries.some_outcome.Statement.{statement}
@@ -85,6 +86,9 @@ returns c =
       carry = λ κs a.
           let w = carryAt (a .0) (a .1 .0) (a .1 .1 .0 .now) (a .1 .1 .1 .0 .now) in
           record { result = w .result; lasts = (tt, (tt, (tt, (w .carried, tt)))); meets = refl };
+      salvage = λ κs a.
+          let w = salvageAt (a .0 .now) (a .1 .0 .now) (a .1 .1 .0 .now) in
+          record { result = w .result; lasts = (tt, (w .table, (w .report, tt))); meets = refl };
       att-error = λ κs a. record { result = attErrorAt (a .0); lasts = (tt, tt); meets = refl };
     }
 
