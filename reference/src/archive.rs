@@ -32,6 +32,7 @@ enum Function {
     Feature,
     Parameters,
     AttError,
+    Salvage,
 }
 
 enum Argument<'a> {
@@ -218,5 +219,9 @@ impl Reader for Archive {
 
     fn att_error(&self, number: u32) -> i32 {
         self.call(Function::AttError, &mut [Number(number)])
+    }
+
+    fn salvage(&self, input: &[u8], table: &mut [u8], report: &mut [u8]) -> i32 {
+        self.call(Function::Salvage, &mut [Shown(input), Lent(table), Lent(report)])
     }
 }

@@ -206,5 +206,5 @@ impl Comparison {
 fn figures(season: &Season, input: &[u8]) -> Run {
     let mut printed = Vec::new();
     season.run(input, &mut printed).expect("memory can be read and written");
-    Run { printed, complaint: None }
+    Run { printed, ..Run::default() }
 }

@@ -1,5 +1,5 @@
 //! A reader of the Device Time Service: its clock, its Time Change Log, its two control points,
-//! segmented notifications, and the tablet's joining, reading, keeping and carrying.
+//! segmented notifications, and the tablet's joining, reading, keeping, carrying and salvaging.
 //!
 //! This is the build paper in ordinary Rust, written to be read and to be compared with. Every
 //! call works on the byte images of the C boundary and has an answer for every input.
@@ -19,6 +19,7 @@
 //! | `joining` | the tablet's joining |
 //! | `keep` | the tablet's own copy of a log; not in the paper |
 //! | `carry` | Carrying a stamp |
+//! | `salvage` | Getting a log back from a wet reader |
 //! | `listing` | the listing program's lines |
 //! | `calendar` | What the log showed, on a calendar |
 //! | `dates` | the lines of the program that turns seconds to dates and back |
@@ -35,7 +36,8 @@
 //! | `concatenation` | made concatenations of tables, and a season program compared on them |
 //! | `zones` | made tables of every zone and DST, and a calendar program compared on them |
 //! | `days` | made seconds, both ends of every day among them, and a dates program compared on them |
-//! | `mutants` | readers, season, calendar and dates programs wrong in one number or step |
+//! | `soaked` | made damaged tables, and a reader and a salvage program compared on them |
+//! | `mutants` | readers, season, calendar, dates and salvage programs wrong in one number or step |
 //! | `archive` | the proved archive as a reader, behind a program |
 
 #![forbid(unsafe_code)]
@@ -65,7 +67,9 @@ pub mod reader;
 pub mod record;
 pub mod refusal;
 pub mod report;
+pub mod salvage;
 pub mod season;
+pub mod soaked;
 pub mod table;
 pub mod update;
 pub mod vectors;

@@ -1,4 +1,5 @@
-//! Compares a reader with the reference, call by call, or a season program or a calendar run by run.
+//! Compares a reader with the reference, call by call, or a season program, a calendar or a salvage
+//! program run by run.
 //!
 //! `--archive COMMAND` names the program that plays calls on the proved archive (tests/c/pipe.c,
 //! with what it takes to run it, between spaces); without it the reference is compared with
@@ -10,6 +11,9 @@
 //! `--calendar COMMAND --dates COMMAND` names a program that prints the calendar of the table on its
 //! standard input, and one that turns the numbers there to dates and back. `--runs N` (60) of the
 //! first, `--seed S` (1).
+//!
+//! `--salvage COMMAND` names a program that salvages the table on its standard input. `--runs N`
+//! (400), `--seed S` (1).
 
 #![forbid(unsafe_code)]
 
@@ -18,24 +22,29 @@ use reference::concatenation;
 use reference::days;
 use reference::history::play;
 use reference::mutants::{spoiled, MUTANTS};
-use reference::program::{command, Program};
+use reference::program::{command, reporting_command, Program};
 use reference::random::{compare, differing};
 use reference::reader::{Reader, Reference};
+use reference::soaked;
 use reference::vectors::play_all;
 use reference::zones;
 use std::process::ExitCode;
 
 const USAGE: &str = "usage: reference [--archive COMMAND] [--calls N] [--seed S]
        reference --season COMMAND [--runs N] [--seed S]
-       reference --calendar COMMAND --dates COMMAND [--runs N] [--seed S]";
+       reference --calendar COMMAND --dates COMMAND [--runs N] [--seed S]
+       reference --salvage COMMAND [--runs N] [--seed S]";
 /// How many mutants the archive is compared with, and how many calls each may take.
 const MUTANTS_TRIED: usize = 15;
 const MUTANT_CALLS: usize = 60_000;
 /// Of "Every record once" on the archive.
 const HISTORIES: u64 = 40;
+/// Made tables that the archive salvages.
+const SALVAGES: usize = 1_000;
 /// Made inputs, if not said otherwise.
 const SEASON_RUNS: usize = 400;
 const CALENDAR_RUNS: usize = 60;
+const SALVAGE_RUNS: usize = 400;
 
 /// What the reference is compared with; the words of a command.
 enum Other {
@@ -43,6 +52,7 @@ enum Other {
     Archive(Vec<String>),
     Season(Vec<String>),
     Calendar { calendar: Vec<String>, dates: Vec<String> },
+    Salvage(Vec<String>),
 }
 
 struct Arguments {
@@ -60,6 +70,9 @@ fn main() -> ExitCode {
     match other {
         Other::Itself => status(no_difference("itself", &Reference::new(), calls, seed)),
         Other::Season(season) => status(season_passes(season, runs.unwrap_or(SEASON_RUNS), seed)),
+        Other::Salvage(salvage) => {
+            status(salvage_passes(salvage, runs.unwrap_or(SALVAGE_RUNS), seed))
+        }
         Other::Calendar { calendar, dates } => {
             let runs = runs.unwrap_or(CALENDAR_RUNS);
             let passed = [dates_pass(dates, seed), calendar_passes(calendar, runs, seed)];
@@ -91,6 +104,7 @@ fn arguments(mut words: impl Iterator<Item = String>) -> Option<Arguments> {
         match name.as_str() {
             "--archive" => arguments.other = Other::Archive(split(&value)),
             "--season" => arguments.other = Other::Season(split(&value)),
+            "--salvage" => arguments.other = Other::Salvage(split(&value)),
             "--calendar" => {
                 let dates = words.next().filter(|name| name == "--dates").and(words.next())?;
                 let (calendar, dates) = (split(&value), split(&dates));
@@ -110,15 +124,16 @@ fn split(words: &str) -> Vec<String> {
     words.split_whitespace().map(str::to_string).collect()
 }
 
-/// All four parts, whatever the first says.
+/// All five parts, whatever the first says.
 fn archive_passes(archive: &Archive, calls: usize, seed: u64) -> bool {
     let passed = [
         vectors_pass(archive),
         no_difference("the archive", archive, calls, seed),
         mutants_are_noticed(archive, seed),
         hands_over_once(archive, seed),
+        salvages(archive, seed),
     ];
-    passed == [true; 4]
+    passed == [true; 5]
 }
 
 fn vectors_pass(archive: &Archive) -> bool {
@@ -165,6 +180,20 @@ fn hands_over_once(archive: &Archive, seed: u64) -> bool {
     found.is_empty()
 }
 
+/// Change request E9: damaged tables of up to 1,023 slots, more of the large ones than among the
+/// calls; if there is no difference, what the comparison is worth.
+fn salvages(archive: &Archive, seed: u64) -> bool {
+    match soaked::made_calls(archive, seed, SALVAGES) {
+        Ok(soaked::Called { kinds, no_room, wrong, untold }) => {
+            let kinds = format!("{kinds}; rooms too short for {no_room}");
+            println!("{SALVAGES} tables from seed {seed} on the archive ({kinds}): no difference");
+            println!("{} of {wrong} wrong salvages told from the archive", wrong - untold.len());
+            none_missed(&untold)
+        }
+        Err(difference) => told(Err(difference)),
+    }
+}
+
 fn none_missed(missed: &[&str]) -> bool {
     for name in missed {
         println!("not noticed: {name}");
@@ -207,6 +236,14 @@ fn calendar_passes(calendar: Vec<String>, runs: usize, seed: u64) -> bool {
         told(made.map(|()| format!("{runs} tables from seed {seed}: no difference"))),
     ];
     passed == [true; 2] && wrong_are_told("calendars", &comparison.program)
+}
+
+/// Made tables; if there is no difference, what the comparison is worth.
+fn salvage_passes(salvage: Vec<String>, runs: usize, seed: u64) -> bool {
+    let mut comparison = soaked::Comparison::new(reporting_command(salvage));
+    let made = comparison.made_tables(seed, runs);
+    told(made.map(|kinds| format!("{runs} tables from seed {seed} ({kinds}): no difference")))
+        && wrong_are_told("salvages", &comparison.program)
 }
 
 /// Prints what was found; whether that was no difference.

@@ -1,5 +1,5 @@
-//! Readers that are wrong in one number or one step each, and season, calendar and dates programs
-//! that are wrong in one: a comparison is worth what it notices of these.
+//! Readers that are wrong in one number or one step each, and season, calendar, dates and salvage
+//! programs that are wrong in one: a comparison is worth what it notices of these.
 
 use crate::access::{matches, Filter};
 use crate::calendar::{
@@ -7,10 +7,16 @@ use crate::calendar::{
 };
 use crate::dates::{is_cut, whole_numbers, Turning, NUMBER_BYTES};
 use crate::numbers::{Numbers, PAPER};
+use crate::octets::{all_zero, u16_at, u32_at};
 use crate::reader::Reference;
 use crate::record::{self, Record};
+use crate::refusal::Refusal;
+use crate::salvage::{
+    all_fields, not_kept, once_round, record_of, room_for_both, sound_as_it_is, Entry as Reported,
+    Lent, Run, Salvage, Salvaged, Slot, ENTRY_BYTES,
+};
 use crate::season::{Entry, Figures, Season};
-use crate::table::{Log, HEADER_BYTES, SLOT_BYTES};
+use crate::table::{offset_of, slots_of_size, Log, HEADER_BYTES, SLOT_BYTES};
 
 /// A number or step of the paper, spoiled; or one thing of something else.
 pub struct Mutant<T = Numbers> {
@@ -80,7 +86,12 @@ pub fn wrong_with_dates<T: Clone>(
 
 /// The reference with that number or step spoiled.
 pub fn spoiled(mutant: &Mutant) -> Reference {
-    Reference { numbers: mutant.of(&PAPER) }
+    Reference { numbers: mutant.of(&PAPER), ..Reference::new() }
+}
+
+/// The reference with this salvage.
+pub fn salvaging(salvage: Salvage) -> Reference {
+    Reference { salvage, ..Reference::new() }
 }
 
 /// The rule that change request E1 did away with.
@@ -336,3 +347,221 @@ pub const WRONG_CALENDARS: &[Mutant<Calendar>] = &[
     Mutant { name: "unknown DST as 0", spoil: |c| c.dst = |dst| known_dst(dst).or(Some(0)) },
     Mutant { name: "unknown DST as 255", spoil: |c| c.dst = |dst| Some(dst as i32) },
 ];
+
+pub const WRONG_SALVAGES: &[Mutant<Salvage>] = &[
+    Mutant {
+        name: "the first of equal runs",
+        spoil: |s| s.later = |a, b| (a.length, b.first).cmp(&(b.length, a.first)),
+    },
+    Mutant {
+        name: "the last run, however long",
+        spoil: |s| {
+            s.later = |a, b| (a.first + a.length, a.length).cmp(&(b.first + b.length, b.length))
+        },
+    },
+    Mutant { name: "a run goes on from the end", spoil: |s| s.runs = joined_runs },
+    Mutant { name: "a run goes on over what doesn't count", spoil: |s| s.order = counting_only },
+    Mutant { name: "H believed", spoil: |s| s.order = held_only },
+    Mutant { name: "the header's N believed", spoil: |s| s.order = as_many_as_said },
+    Mutant { name: "read from 16 always", spoil: |s| s.order = |_, slots| (0..slots).collect() },
+    Mutant { name: "an offset inside a slot believed", spoil: |s| s.order = from_any_offset },
+    Mutant { name: "the tail looked at", spoil: |s| s.record = with_zeros_after },
+    Mutant { name: "the length byte not looked at", spoil: |s| s.record = as_long_as_its_type },
+    Mutant { name: "a fault doesn't count", spoil: |s| s.record = updates_only },
+    Mutant {
+        name: "0 doesn't follow 65,535",
+        spoil: |s| s.follows = |_, a, b| a < b && b - a == 1,
+    },
+    Mutant {
+        name: "a number may be left out",
+        spoil: |s| s.follows = |_, a, b| matches!(b.wrapping_sub(a), 1 | 2),
+    },
+    Mutant {
+        name: "a number may come again",
+        spoil: |s| s.follows = |_, a, b| b.wrapping_sub(a) <= 1,
+    },
+    Mutant { name: "next is the last number", spoil: |s| s.next = |_, last, _| last },
+    Mutant { name: "the header's next believed", spoil: |s| s.next = |_, _, old| old },
+    Mutant { name: "records where they stood", spoil: |s| s.place = |_, place| place },
+    Mutant { name: "tails copied too", spoil: |s| s.kept = |slot| slot.bytes.to_vec() },
+    Mutant { name: "unchanged fields reported too", spoil: |s| s.fields = all_fields },
+    Mutant { name: "old and new exchanged", spoil: |s| s.fields = |old, new| changed(new, old) },
+    Mutant { name: "the header's last field first", spoil: |s| s.fields = last_first },
+    Mutant { name: "bytes 10-15 not reported", spoil: |s| s.fields = without_rest },
+    Mutant { name: "empty slots not reported", spoil: |s| s.lost = without_empty },
+    Mutant { name: "rubbish not reported", spoil: |s| s.lost = without_rubbish },
+    Mutant { name: "slots in the order of reading", spoil: |s| s.lost = as_read },
+    Mutant { name: "slots counted in the order of reading", spoil: |s| s.lost = counted_as_read },
+    Mutant { name: "slots counted from 1", spoil: |s| s.lost = counted_from_1 },
+    Mutant { name: "a slot's place in a byte", spoil: |s| s.lost = place_in_a_byte },
+    Mutant {
+        name: "the header after the slots",
+        spoil: |s| s.report = |fields, slots| [slots, fields].concat(),
+    },
+    Mutant { name: "a sound table has a report", spoil: |s| s.comes_back = with_report },
+    Mutant { name: "a sound table is written anew", spoil: |s| s.comes_back = |_, _| None },
+    Mutant { name: "an empty table has nothing to keep", spoil: |s| s.comes_back = if_not_empty },
+    Mutant { name: "any size, rounded down", spoil: |s| s.slots_of_size = rounded_down },
+    Mutant { name: "at most 1,022 slots", spoil: |s| s.slots_of_size = fewer_slots },
+    Mutant { name: "1,024 slots", spoil: |s| s.slots_of_size = more_slots },
+];
+
+fn joined_runs(salvage: &Salvage, numbers: &Numbers, read: &[Slot]) -> Vec<Run> {
+    let (slots, twice) = (read.len(), [read, read].concat());
+    let length = |first| salvage.length(numbers, &twice[first..first + slots]);
+    let run = |first| Run { first, length: length(first) };
+    (0..slots).map(run).filter(|run| run.length > 0).collect()
+}
+
+fn slot_of(input: &[u8], place: usize) -> &[u8] {
+    &input[offset_of(place)..offset_of(place + 1)]
+}
+
+fn counting_only(input: &[u8], slots: usize) -> Vec<usize> {
+    let mut order = once_round(input, slots);
+    order.retain(|place| record_of(&PAPER, slot_of(input, *place)).is_some());
+    order
+}
+
+fn held_only(input: &[u8], slots: usize) -> Vec<usize> {
+    let mut order = once_round(input, slots);
+    order.truncate(usize::from(u16_at(input, 2)));
+    order
+}
+
+fn as_many_as_said(input: &[u8], slots: usize) -> Vec<usize> {
+    once_round(input, slots.min(usize::from(u16_at(input, 0))))
+}
+
+fn from_any_offset(input: &[u8], slots: usize) -> Vec<usize> {
+    let first = (u32_at(input, 4) as usize).saturating_sub(HEADER_BYTES) / SLOT_BYTES;
+    (0..slots).map(|read| (first + read) % slots).collect()
+}
+
+fn with_zeros_after<'a>(numbers: &Numbers, slot: &'a [u8]) -> Option<&'a [u8]> {
+    record_of(numbers, slot).filter(|record| all_zero(&slot[1 + record.len()..]))
+}
+
+fn as_long_as_its_type<'a>(numbers: &Numbers, slot: &'a [u8]) -> Option<&'a [u8]> {
+    let lengths = [record::TIME_FAULT_BYTES, record::TIME_UPDATE_BYTES];
+    let length = lengths.get(usize::from(slot[3]))?;
+    let record = &slot[1..1 + length];
+    record::well_formed(numbers, record).then_some(record)
+}
+
+fn updates_only<'a>(numbers: &Numbers, slot: &'a [u8]) -> Option<&'a [u8]> {
+    record_of(numbers, slot).filter(|record| record[2] == record::TIME_UPDATE)
+}
+
+fn changed(old: &[u8], new: &[u8]) -> Vec<Reported> {
+    (crate::salvage::PAPER.fields)(old, new)
+}
+
+fn last_first(old: &[u8], new: &[u8]) -> Vec<Reported> {
+    changed(old, new).into_iter().rev().collect()
+}
+
+fn without_rest(old: &[u8], new: &[u8]) -> Vec<Reported> {
+    changed(&[&old[..10], &new[10..]].concat(), new)
+}
+
+fn without_empty(all: &[Slot], kept: &[Slot]) -> Vec<usize> {
+    let empty = |place| all.iter().any(|slot| slot.place == place && all_zero(slot.bytes));
+    not_kept(all, kept).into_iter().filter(|place| !empty(*place)).collect()
+}
+
+fn without_rubbish(all: &[Slot], kept: &[Slot]) -> Vec<usize> {
+    let rubbish = |slot: &Slot| slot.record.is_none() && !all_zero(slot.bytes);
+    let rubbish = |place| all.iter().any(|slot| slot.place == place && rubbish(slot));
+    not_kept(all, kept).into_iter().filter(|place| !rubbish(*place)).collect()
+}
+
+fn as_read(all: &[Slot], kept: &[Slot]) -> Vec<usize> {
+    let lost = not_kept(all, kept);
+    all.iter().map(|slot| slot.place).filter(|place| lost.contains(place)).collect()
+}
+
+fn counted_as_read(all: &[Slot], kept: &[Slot]) -> Vec<usize> {
+    let lost = not_kept(all, kept);
+    (0..all.len()).filter(|read| lost.contains(&all[*read].place)).collect()
+}
+
+fn counted_from_1(all: &[Slot], kept: &[Slot]) -> Vec<usize> {
+    not_kept(all, kept).into_iter().map(|place| place + 1).collect()
+}
+
+fn place_in_a_byte(all: &[Slot], kept: &[Slot]) -> Vec<usize> {
+    not_kept(all, kept).into_iter().map(|place| place % 256).collect()
+}
+
+/// The slots that aren't held.
+fn with_report(numbers: &Numbers, input: &[u8]) -> Option<Salvaged> {
+    let shape = Log::open(numbers, input).ok()?.shape;
+    let not_held = shape.held..shape.slots;
+    let report = not_held.map(|age| Reported::Slot((shape.oldest + age) % shape.slots)).collect();
+    Some(Salvaged { table: input.to_vec(), report })
+}
+
+fn if_not_empty(numbers: &Numbers, input: &[u8]) -> Option<Salvaged> {
+    let held = Log::open(numbers, input).ok()?.shape.held;
+    sound_as_it_is(numbers, input).filter(|_| held > 0)
+}
+
+fn rounded_down(_: &Numbers, size: usize) -> Option<usize> {
+    let slots = size.checked_sub(HEADER_BYTES)? / SLOT_BYTES;
+    (1..=PAPER.most_slots).contains(&slots).then_some(slots)
+}
+
+fn fewer_slots(numbers: &Numbers, size: usize) -> Option<usize> {
+    slots_of_size(numbers, size).filter(|slots| *slots < numbers.most_slots)
+}
+
+fn more_slots(numbers: &Numbers, size: usize) -> Option<usize> {
+    slots_of_size(&Numbers { most_slots: numbers.most_slots + 1, ..numbers.clone() }, size)
+}
+
+/// What the program, which has room for everything, doesn't show: a caller's rooms.
+pub const WRONG_ROOMS: &[Mutant<Salvage>] = &[
+    Mutant { name: "3 before 20", spoil: |s| s.fits = room_before_size },
+    Mutant { name: "3 before 21", spoil: |s| s.fits = room_before_records },
+    Mutant { name: "a report is cut to its room", spoil: |s| s.fits = cut_report },
+    Mutant { name: "no room left over", spoil: |s| s.fits = exact_rooms },
+    Mutant { name: "a sound table needs room for a report", spoil: |s| s.fits = room_for_an_entry },
+    Mutant { name: "the rest of a room is zeroed", spoil: |s| s.write = zeros_after },
+];
+
+fn room_before_size(found: Result<Salvaged, Refusal>, lent: Lent) -> Result<Salvaged, Refusal> {
+    match found {
+        Err(Refusal::SizeOfNoTable) if lent.table < lent.input => Err(Refusal::OutputTooShort),
+        _ => room_for_both(found, lent),
+    }
+}
+
+fn room_before_records(found: Result<Salvaged, Refusal>, lent: Lent) -> Result<Salvaged, Refusal> {
+    match found {
+        Err(Refusal::NoRecord) if lent.table < lent.input => Err(Refusal::OutputTooShort),
+        _ => room_for_both(found, lent),
+    }
+}
+
+fn cut_report(found: Result<Salvaged, Refusal>, lent: Lent) -> Result<Salvaged, Refusal> {
+    let mut salvaged = found?;
+    salvaged.report.truncate(lent.report / ENTRY_BYTES);
+    room_for_both(Ok(salvaged), lent)
+}
+
+fn exact_rooms(found: Result<Salvaged, Refusal>, lent: Lent) -> Result<Salvaged, Refusal> {
+    let salvaged = room_for_both(found, lent)?;
+    let exact = salvaged.table.len() == lent.table;
+    Some(salvaged).filter(|_| exact).ok_or(Refusal::OutputTooShort)
+}
+
+fn room_for_an_entry(found: Result<Salvaged, Refusal>, lent: Lent) -> Result<Salvaged, Refusal> {
+    let salvaged = room_for_both(found, lent)?;
+    Some(salvaged).filter(|_| lent.report >= ENTRY_BYTES).ok_or(Refusal::OutputTooShort)
+}
+
+fn zeros_after(room: &mut [u8], bytes: &[u8]) {
+    room.fill(0);
+    room[..bytes.len()].copy_from_slice(bytes);
+}

@@ -10,6 +10,7 @@ use crate::numbers::PAPER;
 use crate::octets::{put_u16, put_u32, u16_at, u32_at};
 use crate::reader::Reader;
 use crate::record::{self, Record, TimeFault, TimeUpdate};
+use crate::salvage::{ENTRY_BYTES, FIELDS};
 use crate::table::{self, Shape, HEADER_BYTES, SLOT_BYTES};
 use crate::world::{Buffer, Call, World, FILL};
 use std::collections::VecDeque;
@@ -201,12 +202,15 @@ pub fn differs(a: &dyn Reader, b: &dyn Reader, steps: &[Step]) -> Option<String>
     None
 }
 
-fn first_difference(a: &World, b: &World) -> String {
+/// The first byte, or number, in which they differ, in words.
+pub fn first_difference(a: &World, b: &World) -> String {
     let buffers = [
         ("state", &a.state, &b.state),
         ("table", &a.table, &b.table),
         ("joining", &a.joining, &b.joining),
         ("output", &a.out, &b.out),
+        ("salvaged", &a.salvaged, &b.salvaged),
+        ("findings", &a.findings, &b.findings),
     ];
     for (name, a, b) in buffers {
         if let Some(at) = (0..a.len().max(b.len())).find(|at| a.get(*at) != b.get(*at)) {
@@ -372,6 +376,14 @@ pub fn table_damage(random: &mut Random, table: &[u8]) -> Option<(usize, Vec<u8>
     })
 }
 
+/// Bytes to put into the table so that a slot without a record gets in between: those from there on
+/// stand one place later, and the last of them is lost.
+pub fn pushed_on(table: &[u8], place: usize) -> (usize, Vec<u8>) {
+    let at = table.len().min(HEADER_BYTES + SLOT_BYTES * place);
+    let bytes = [&[0; SLOT_BYTES], &table[at..]].concat();
+    (at, bytes[..table.len() - at].to_vec())
+}
+
 /// The oldest slot, the newest, or any.
 fn likely_slot(random: &mut Random, table: &[u8], slots: usize) -> usize {
     let oldest = (u32_at(table, 4) as usize).saturating_sub(HEADER_BYTES) / SLOT_BYTES;
@@ -472,6 +484,7 @@ impl Maker {
             21..=23 => self.other_output(world),
             24..=27 => self.other_joining(world),
             28 => self.other_size(world),
+            29..=31 => self.soaked_table(world),
             _ => self.ordinary(world),
         }
     }
@@ -614,10 +627,70 @@ impl Maker {
         self.some_calls(world);
         if self.random.one_in(4) {
             self.add_call(Call::Start);
+            self.add_call(Call::Fault);
         }
         let kept = length.min(whole.len());
         self.add(Step::Length(buffer, whole.len()));
         self.add(Step::Bytes(buffer, kept, whole[kept..].to_vec()));
+    }
+
+    /// The table salvaged, mostly damaged or lent with another length; then as before.
+    fn soaked_table(&mut self, world: &World) {
+        self.soak(world);
+        let whole = world.table.len();
+        let length = match self.random.below(24) {
+            0 => self.random.below(HEADER_BYTES + SLOT_BYTES),
+            1 => whole.saturating_sub(1),
+            2 => whole + 1,
+            3 => whole.saturating_sub(SLOT_BYTES),
+            4 if self.random.one_in(4) => 65_552,
+            _ => whole,
+        };
+        self.add(Step::Length(Buffer::Table, length));
+        self.lend_rooms(length);
+        self.add_call(Call::Salvage);
+        self.add(Step::Lend(Buffer::Salvaged, 0));
+        self.add(Step::Lend(Buffer::Findings, 0));
+        self.add(Step::Length(Buffer::Table, whole));
+        self.add(Step::Bytes(Buffer::Table, 0, world.table.clone()));
+    }
+
+    /// Damage in a few places, in none, or everywhere; or a slot in between.
+    fn soak(&mut self, world: &World) {
+        if self.random.one_in(8) {
+            return self.add(Step::Lend(Buffer::Table, world.table.len()));
+        }
+        if self.random.one_in(8) {
+            let (at, bytes) = pushed_on(&world.table, self.random.below(4));
+            return self.add(Step::Bytes(Buffer::Table, at, bytes));
+        }
+        let mut soaked = world.clone();
+        for _ in 0..self.random.pick(&[0, 1, 1, 1, 2, 3, 8]) {
+            if let Some((at, bytes)) = table_damage(&mut self.random, &soaked.table) {
+                soaked.poke(Buffer::Table, at, &bytes);
+                self.add(Step::Bytes(Buffer::Table, at, bytes));
+            }
+        }
+    }
+
+    /// Rooms for what a table of this length gives: just so, longer, too short, or none.
+    fn lend_rooms(&mut self, length: usize) {
+        let slots = length.saturating_sub(HEADER_BYTES) / SLOT_BYTES;
+        let most = ENTRY_BYTES * (FIELDS.len() + slots);
+        let table = match self.random.below(12) {
+            0 => 0,
+            1 => length.saturating_sub(1),
+            2..=4 => length + 9,
+            _ => length,
+        };
+        let report = match self.random.below(6) {
+            0 => self.random.below(most + 1),
+            1 => ENTRY_BYTES * self.random.below(4),
+            2 => most + 9,
+            _ => most,
+        };
+        self.add(Step::Lend(Buffer::Salvaged, table));
+        self.add(Step::Lend(Buffer::Findings, report));
     }
 
     /// One call, chosen by what the reader is doing.

@@ -4,6 +4,7 @@ use crate::clock::Switches;
 use crate::numbers::{Numbers, PAPER};
 use crate::record::{self, Fields};
 use crate::refusal::{self, Refusal};
+use crate::salvage::{self, Salvage};
 use crate::{access, carry, clock, image, joining, keep, notify, update};
 
 /// A reader as a C caller sees it. Answers of at least 0 mean done (bytes written), answers
@@ -42,16 +43,20 @@ pub trait Reader {
     fn parameters(&self, out: &mut [u8]) -> i32;
     /// The ATT error of a positive refusal number, 0 where there is none.
     fn att_error(&self, number: u32) -> i32;
+    /// The bytes written of the report; the table has as many as the input. Refuses 20, 21, 3; of
+    /// a sound table 3 alone.
+    fn salvage(&self, input: &[u8], table: &mut [u8], report: &mut [u8]) -> i32;
 }
 
 /// The reference: the paper's rules over the paper's numbers.
 pub struct Reference {
     pub numbers: Numbers,
+    pub salvage: Salvage,
 }
 
 impl Reference {
     pub fn new() -> Reference {
-        Reference { numbers: PAPER }
+        Reference { numbers: PAPER, salvage: salvage::PAPER }
     }
 }
 
@@ -143,5 +148,9 @@ impl Reader for Reference {
 
     fn att_error(&self, number: u32) -> i32 {
         refusal::att_error(number)
+    }
+
+    fn salvage(&self, input: &[u8], table: &mut [u8], report: &mut [u8]) -> i32 {
+        answer(self.salvage.salvage(&self.numbers, input, table, report))
     }
 }

@@ -15,6 +15,9 @@ pub enum Refusal {
     NotARecord = 11,
     LaterRecordNotHeld = 12,
     FaultAmongThem = 13,
+    // Of change request E9, salvage.
+    SizeOfNoTable = 20,
+    NoRecord = 21,
     // Not the paper's, but of the call that it leaves to us: keeping.
     DoesNotFollow = 23,
 }

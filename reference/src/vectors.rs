@@ -8,7 +8,8 @@
 //!
 //! Besides the parts it names, every vector is held to what goes for all calls: a refusal
 //! leaves state, table and output as they were (10 empties the joining state instead), and
-//! output past the bytes written keeps its old bytes.
+//! output past the bytes written keeps its old bytes. So do salvage's two rooms; what it salvages
+//! is the table, and that stays as it is.
 
 use crate::listing::{is_sound, listing};
 use crate::octets::{put_u16, put_u32, u16_at, u32_at};
@@ -137,6 +138,10 @@ fn setup(
         "buffer" => world.table = vec![FILL; number(&words[0])?],
         "length" => world.buffer(named_buffer(&words[0])?).resize(number(&words[1])?, 0),
         "out" => world.out = vec![FILL; number(&words[0])?],
+        "rooms" => {
+            world.salvaged = vec![FILL; number(&words[0])?];
+            world.findings = vec![FILL; number(&words[1])?];
+        }
         "bytes" => {
             let (buffer, at) = (named_buffer(&words[0])?, number(&words[1])?);
             world.poke(buffer, at, &hex(&words[2..])?);
@@ -184,6 +189,7 @@ fn named_call(line: &Line) -> Result<Call, String> {
         "feature" => Call::Feature,
         "parameters" => Call::Parameters,
         "att_error" => Call::AttError(number(&words[0])?),
+        "salvage" => Call::Salvage,
         other => return Err(format!("no call named {other}")),
     })
 }
@@ -191,6 +197,9 @@ fn named_call(line: &Line) -> Result<Call, String> {
 /// What goes for every call, named in the vector or not.
 fn holds_for_all_calls(call: &Line, outcome: &Outcome) -> Result<(), String> {
     let Outcome { before, after, answer, .. } = outcome;
+    if call.verb == "salvage" && *answer >= 0 {
+        return holds_for_salvage(outcome);
+    }
     if *answer >= 0 {
         let written = match call.verb.as_str() {
             "join" | "att_error" => 0,
@@ -207,6 +216,22 @@ fn holds_for_all_calls(call: &Line, outcome: &Outcome) -> Result<(), String> {
         untouched.joining.fill(0);
     }
     same("buffers after a refusal", after, &untouched)
+}
+
+/// It writes as many bytes as the table has, and as many of the report as it answers; all else it
+/// leaves as it was.
+fn holds_for_salvage(outcome: &Outcome) -> Result<(), String> {
+    let Outcome { before, after, answer, .. } = outcome;
+    let mut expected = before.clone();
+    let rooms = [
+        (&mut expected.salvaged, &after.salvaged, before.table.len()),
+        (&mut expected.findings, &after.findings, *answer as usize),
+    ];
+    for (room, found, written) in rooms {
+        let bytes = found.get(..written).ok_or("more was written than there is room for")?;
+        room.get_mut(..written).ok_or("a room has another length")?.copy_from_slice(bytes);
+    }
+    same("buffers besides what salvage writes", after, &expected)
 }
 
 /// One expected part of the outcome.
@@ -352,6 +377,8 @@ fn named_buffer(word: &str) -> Result<Buffer, String> {
         "table" => Ok(Buffer::Table),
         "joining" => Ok(Buffer::Joining),
         "out" => Ok(Buffer::Output),
+        "salvaged" => Ok(Buffer::Salvaged),
+        "findings" => Ok(Buffer::Findings),
         other => Err(format!("no buffer named {other}")),
     }
 }

@@ -18,6 +18,9 @@ pub struct World {
     pub carried: i64,
     /// The bytes of the last segment sent, as the radio would bring them to the tablet.
     pub segment: Vec<u8>,
+    /// Salvage's room for a table, and its room for what it reports.
+    pub salvaged: Vec<u8>,
+    pub findings: Vec<u8>,
 }
 
 #[derive(Clone, Copy, Debug, PartialEq, Eq)]
@@ -26,6 +29,8 @@ pub enum Buffer {
     Table,
     Joining,
     Output,
+    Salvaged,
+    Findings,
 }
 
 /// A public call with its numbers and the bytes it brings; the lent buffers are the world's.
@@ -51,6 +56,8 @@ pub enum Call {
     Feature,
     Parameters,
     AttError(u32),
+    /// Salvages the table.
+    Salvage,
 }
 
 impl World {
@@ -63,6 +70,8 @@ impl World {
             fields: [0; 11],
             carried: 0,
             segment: Vec::new(),
+            salvaged: Vec::new(),
+            findings: Vec::new(),
         }
     }
 
@@ -72,6 +81,8 @@ impl World {
             Buffer::Table => &mut self.table,
             Buffer::Joining => &mut self.joining,
             Buffer::Output => &mut self.out,
+            Buffer::Salvaged => &mut self.salvaged,
+            Buffer::Findings => &mut self.findings,
         }
     }
 
@@ -106,6 +117,7 @@ impl World {
             Call::Feature => reader.feature(out),
             Call::Parameters => reader.parameters(out),
             Call::AttError(number) => reader.att_error(*number),
+            Call::Salvage => reader.salvage(table, &mut self.salvaged, &mut self.findings),
         }
     }
 

@@ -325,7 +325,7 @@ fn a_dates_program_wrong_at_the_end_is_noticed() {
     assert_eq!(found, Err("in the dates of 0 bytes, a complaint: \"!\"".to_string()));
     let lost = |run: Run| match run.complaint {
         None => run,
-        complaint => Run { printed: Vec::new(), complaint },
+        complaint => Run { complaint, ..Run::default() },
     };
     assert!(dates_programs(lost).cut_and_empty().is_err());
 }

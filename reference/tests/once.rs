@@ -298,6 +298,9 @@ impl Reader for WrongReader {
     fn att_error(&self, number: u32) -> i32 {
         self.right.att_error(number)
     }
+    fn salvage(&self, input: &[u8], table: &mut [u8], report: &mut [u8]) -> i32 {
+        self.right.salvage(input, table, report)
+    }
 }
 
 #[test]

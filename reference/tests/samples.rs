@@ -3,10 +3,11 @@
 use reference::calendar::calendar;
 use reference::dates::dates;
 use reference::heard::{asked, carried, joined};
-use reference::listing::listing;
+use reference::listing::{is_sound, listing};
+use reference::program::Run;
 use reference::reader::{Reader, Reference};
 use reference::report::{report, ALL_RECORDS, COMBINED};
-use reference::season;
+use reference::{salvage, season};
 use std::fs;
 use std::path::{Path, PathBuf};
 
@@ -102,6 +103,25 @@ fn carried_stamps_are_the_references() {
 #[test]
 fn requests_by_number_are_the_references() {
     are_the_references("asked", asked);
+}
+
+/// An unsound table has a file with what is said of it, and one with what comes back, if anything
+/// does; a sound one has neither, since it comes back as it is.
+#[test]
+fn salvaged_tables_are_the_references() {
+    for path in files(|kind| kind == "table") {
+        let table = fs::read(&path).unwrap();
+        let sound = is_sound(&Reference::new(), &table);
+        let Run { printed, report, complaint } = salvage::PAPER.run(&table);
+        let (told, comes_back) = match complaint {
+            Some(refusal) => (Some(refusal), None),
+            None if sound => (None, None),
+            None => (Some(report), Some(printed)),
+        };
+        let stored = |kind: &str| fs::read(path.with_extension(kind)).ok();
+        assert_eq!(stored("told"), told.map(String::into_bytes), "{}", path.display());
+        assert_eq!(stored("salvaged"), comes_back, "{}", path.display());
+    }
 }
 
 #[test]

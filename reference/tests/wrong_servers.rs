@@ -25,9 +25,10 @@ enum Wrong {
     SubtractsUnsigned,
     KeepsFrom0Only,
     KeepsAnyNumber,
+    SalvagesBeforeItRefuses,
 }
 
-const ALL: [Wrong; 16] = [
+const ALL: [Wrong; 17] = [
     Wrong::RejectsEveryProposal,
     Wrong::SaysSuccessToAll,
     Wrong::NeverLogs,
@@ -44,6 +45,7 @@ const ALL: [Wrong; 16] = [
     Wrong::SubtractsUnsigned,
     Wrong::KeepsFrom0Only,
     Wrong::KeepsAnyNumber,
+    Wrong::SalvagesBeforeItRefuses,
 ];
 
 /// The reference, with one call gone wrong.
@@ -196,6 +198,15 @@ impl Reader for WrongReader {
             _ => {}
         }
         self.right.keep(table, bytes)
+    }
+
+    fn salvage(&self, input: &[u8], table: &mut [u8], report: &mut [u8]) -> i32 {
+        let answer = self.right.salvage(input, table, report);
+        // The table is there before the report turns out not to fit.
+        if self.wrong == Wrong::SalvagesBeforeItRefuses && answer == -3 {
+            self.right.salvage(input, table, &mut [0; 16 * 1_027]);
+        }
+        answer
     }
 
     fn start(&self, state: &mut [u8], table: &mut [u8]) -> i32 {

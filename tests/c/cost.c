@@ -10,6 +10,7 @@
 
 static uint8_t state[DTS_STATE_BYTES], found[DTS_STATE_BYTES], out[DTS_LARGEST_PAYLOAD];
 static uint8_t table[DTS_TABLE_BYTES(DTS_MOST_SLOTS)], request[7];
+static uint8_t back[DTS_TABLE_BYTES(DTS_MOST_SLOTS)], report[DTS_REPORT_BYTES(DTS_MOST_SLOTS)];
 static size_t length, asked;
 static const uint8_t force[] = {0x03, 0x43, 0x00, 0x00, 0x08, 0xAF, 0x2F, 0x04, 0x00, 0x02, 0x01};
 
@@ -66,7 +67,7 @@ static void ask(uint8_t opcode, uint8_t operator, unsigned minimum, unsigned max
     asked = operator == RANGE ? 7 : operator == AT_LEAST ? 5 : 2;
 }
 
-/* The first call's state: for o and t a report runs already. */
+/* The first call's state: for o and t a report runs already; for g the table's last byte is damaged. */
 static void prepare(char kind, unsigned newest)
 {
     switch (kind) {
@@ -78,6 +79,8 @@ static void prepare(char kind, unsigned newest)
     case 't': ask(REPORT, ALL, 0, 0); break;
     default: ask(REPORT, LAST, 0, 0);
     }
+    if (kind == 'g')
+        table[length - 1] = 1;
     if (kind == 'o' || kind == 't')
         expect("report", access_records(), 0);
     memcpy(found, state, sizeof found);
@@ -88,6 +91,7 @@ static int32_t once(char kind, uint16_t next)
     switch (kind) {
     case 's': case 'f': return carry(next);
     case 'c': return carry(0);
+    case 'g': return dts_salvage(table, length, back, length, report, sizeof report);
     case 'w': return update() - 3;
     case 'd': return dts_device_time(state, sizeof state, table, length, out, sizeof out) - DTS_DEVICE_TIME_BYTES;
     case 'n': case 'a': case 'b': return access_records() - 4;

@@ -32,7 +32,7 @@ struct argument {
 
 /* For each function its arguments: n a number, b a buffer. */
 static const char *const functions[] = {
-    "bb", "bn", "bnnn", "b", "bbb", "bbbb", "bbbb", "bbnb", "bb", "bb", "bb", "nnbb", "bbb", "b", "b", "n",
+    "bb", "bn", "bnnn", "b", "bbb", "bbbb", "bbbb", "bbnb", "bb", "bb", "bb", "nnbb", "bbb", "b", "b", "n", "bbb",
 };
 
 static struct argument arguments[MOST_ARGUMENTS];
@@ -115,7 +115,8 @@ static int32_t call(unsigned function)
     case 12: return dts_device_time(BUFFER(0), BUFFER(1), BUFFER(2));
     case 13: return dts_feature(BUFFER(0));
     case 14: return dts_parameters(BUFFER(0));
-    default: return dts_att_error(NUMBER(0));
+    case 15: return dts_att_error(NUMBER(0));
+    default: return dts_salvage(BUFFER(0), BUFFER(1), BUFFER(2));
     }
 }
 

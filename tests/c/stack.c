@@ -4,8 +4,8 @@
  * before the call, on x86-64 with the return address. Each call is made with two paints, from the same memory, so
  * that no byte is missed that was written with the paint. Room at the bottom of a frame that is never written is not
  * seen: the compiler's own report has it (tools/cost). Calls go the long way: a full table of 1,023 slots, a running
- * report, a record that is joined, read, kept, carried. One line each; of joining and reading one for each kind of
- * call too, and last what a task needs that does both. None may use more than the header says.
+ * report, a record that is joined, read, kept, carried, a table that is salvaged. One line each; of joining and reading
+ * one for each kind of call too, and last what a task needs that does both. None may use more than the header says.
  */
 #include "check.h"
 #include "whiskraven.h"
@@ -15,6 +15,8 @@ enum { ARGUMENTS = 8, BELOW = 1 << 16, SLOTS = DTS_MOST_SLOTS };
 enum { ANY_CALL = 640, JOINING_TASK = 128 };
 /* What a full segment at the smallest payload has of a Time_Update, and what is left for the second. */
 enum { BODY = DTS_SMALLEST_PAYLOAD - 1, REST = DTS_TIME_UPDATE_BYTES - BODY };
+/* The slot that gets wet. What is salvaged reports H and the offset, and that slot with those before it, the oldest. */
+enum { WET = SLOTS / 2, OLDEST = 2, ENTRIES = 2 + WET - OLDEST + 1 };
 
 typedef void (*entry_point)(void);
 
@@ -80,6 +82,7 @@ static struct {
     uint8_t joining[DTS_JOINING_BYTES], too_long[DTS_JOINING_BYTES + 1];
     uint32_t fields[DTS_FIELDS];
     int64_t carried;
+    uint8_t salvaged[DTS_TABLE_BYTES(SLOTS)], report[DTS_REPORT_ENTRY_BYTES * ENTRIES];
 } lent, before;
 /* Two segments of a Time_Update; records. */
 static uint8_t first[DTS_SMALLEST_PAYLOAD], last[1 + REST];
@@ -193,6 +196,12 @@ static void copy_log(void)
     memcpy(joined, lent.copy + 8, 2);
 }
 
+/* The newer records are the longer run; the copy's oldest stands in slot 2, after one update and one record kept. */
+static void soak(void)
+{
+    memset(lent.copy + DTS_TABLE_BYTES(WET), 0xFF, DTS_SLOT_BYTES);
+}
+
 int main(void)
 {
     note_fault();
@@ -208,6 +217,9 @@ int main(void)
     long read = measure_read();
     copy_log();
     MEASURE("dts_keep", 0, dts_keep, BYTES(lent.copy), JOINED(DTS_TIME_UPDATE_BYTES));
+    soak();
+    MEASURE("dts_salvage", DTS_REPORT_ENTRY_BYTES * ENTRIES, dts_salvage, BYTES(lent.copy), BYTES(lent.salvaged),
+            BYTES(lent.report));
     MEASURE("dts_carry", 0, dts_carry, 800000000, 1, TABLE, (uintptr_t)&lent.carried);
     MEASURE("dts_device_time", DTS_DEVICE_TIME_BYTES, dts_device_time, STATE, TABLE, OUT);
     MEASURE("dts_feature", DTS_FEATURE_BYTES, dts_feature, OUT);

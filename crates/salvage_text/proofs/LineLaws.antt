@@ -23,7 +23,7 @@ begun-with p e f = f ∙ ap (λ (l : List ℕ). fitted (l ++ p)) e
 pub one-word : (p : List ℕ) {x y : List ℕ} → length p ≤ 96 → x ≡ [] → y ≡ fitted (x ++ p) → y ≡ p
 one-word p h e f = begun-with p e f ∙ fitted-short p h
 
-pub slot-short : (place : ℕ) → length (slotLine place) ≤ 35
+slot-short : (place : ℕ) → length (slotLine place) ≤ 35
 unfolding slotLine
 slot-short place = simp length-append (omega (arith, decimal-short-any place))
 
@@ -47,7 +47,7 @@ word-short kind = go (eqb kind 1) (eqb kind 2) (eqb kind 3) (eqb kind 4)
     go false false false true = omega arith
     go false false false false = omega arith
 
-pub field-short : (kind old new : ℕ) → length (fieldLine kind old new) ≤ 53
+field-short : (kind old new : ℕ) → length (fieldLine kind old new) ≤ 53
 unfolding fieldLine
 field-short kind old new =
     simp length-append (omega (arith, word-short kind, decimal-short-any old, decimal-short-any new))

@@ -62,7 +62,6 @@ module _ (input table : List ℕ) {a : Salvaged} {x y : List ℕ} (called : salv
       ∙ ap (buffers (filled (backBy a (length input)) x)) told
       ∙ ap (λ (s : Salvage). printedBy s (length input) out) called
 
--- what came back stands in the table's room: it's as long as the input, and else it would have been refused
 by-test : {P : Type 0} (b : Bool) → (b ≡ true → P) → (b ≡ false → P) → P
 by-test true h k = h refl
 by-test false h k = k refl
@@ -71,6 +70,7 @@ by-zero : {P : Type 0} (n : ℕ) → (n ≡ 0 → P) → ((n ≡ 0 → ⊥) → 
 by-zero zero h k = h refl
 by-zero (suc n) h k = k (λ e. omega arith)
 
+-- what came back is as long as the input, and stands in the table's room
 abbrev Stands : ℕ → Salvage → Type 0
 Stands size s = backBy (s .answer) size ≤ length (s .table)
 

@@ -1,6 +1,6 @@
 -- What was read lies within its buffer, and so do the table and the lines that are to be written.
 -- Assumes nothing.
-use mathlib.Core.Path.{_≡_, sym}
+use mathlib.Core.Path.{sym}
 use mathlib.Core.List.{List, _++_}
 use Prim.Native.Nat.{ℕ, _≤_}
 use lib.ListN.{length, take, length-append, length-take}
@@ -11,6 +11,7 @@ use native.Mathlib.Omega.{arith}
 use Rattle.salvage.proofs.main.Statement.{statement}
 use Rattle.salvage.proofs.main.Tie as tie
 
+-- the bytes that were read stay in front, whatever is asked for after them
 front : (n : ℕ) (xs ys : List ℕ) → n ≤ length xs → n ≤ length (take n xs ++ ys)
 front n xs ys h = simp (length-append, length-take) (omega arith)
 

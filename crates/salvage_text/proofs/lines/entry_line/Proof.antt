@@ -1,7 +1,7 @@
 -- An entry of kind 0 is a slot's, any other a header field's.
 -- Assumes nothing.
 use mathlib.Core.Path.{sym, ap, _∙_}
-use Rattle.salvage_text.specs.Told.{slotLine, fieldLine}
+use Rattle.salvage_text.specs.Told.{slotLine}
 use Rattle.salvage_text.proofs.LineLaws.{entry-slot, entry-field, entry-short}
 use borrow.Author.Needs.{needs}
 use Rattle.salvage_text.proofs.lines.entry_line.Statement.{statement}

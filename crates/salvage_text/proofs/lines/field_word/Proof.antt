@@ -1,6 +1,5 @@
 -- Each word by its number, and the last for any other.
 -- Assumes nothing.
-use mathlib.Core.Path.{sym, _∙_}
 use borrow.Author.Tests.{ne-eqb}
 use Rattle.salvage_text.specs.Told.{slotsWord, heldWord, offsetWord, nextWord, restWord, fieldWord}
 use Rattle.salvage_text.proofs.LineLaws.{one-word}

@@ -1,6 +1,5 @@
 -- Each answer by its case.
 -- Assumes nothing.
-use mathlib.Core.Path.{sym, ap}
 use Rattle.salvage_text.specs.Told.{backBy}
 use borrow.Author.Needs.{needs}
 use Rattle.salvage_text.proofs.told.back.Statement.{statement}
