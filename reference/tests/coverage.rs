@@ -267,8 +267,9 @@ fn sequences_reach_everything() {
     assert_eq!(seen.segment_bits, BTreeSet::from([0, 1, 2, 3]));
     assert_eq!(seen.counters, BTreeSet::from_iter(0..64));
     assert_eq!(seen.closings, BTreeSet::from([6, 8]));
-    // 4 and 6: a table of five slots that was lent with one less or one more, and started anew.
-    assert!(seen.slots.is_superset(&BTreeSet::from([1, 2, 3, 4, 5, 6, 40, 1_023])));
+    // 4, 6, 39 and 41: a table of five or forty slots that was lent with one less or one more, and
+    // started anew.
+    assert_eq!(seen.slots, BTreeSet::from([1, 2, 3, 4, 5, 6, 39, 40, 41, 1_023]));
     assert_eq!(
         seen.events,
         BTreeSet::from([

@@ -2,7 +2,7 @@
 -- Assumes nothing.
 use mathlib.Core.Path.{_≡_, sym, ap, _∙_}
 use mathlib.Core.List.{List}
-use Rattle.salvage_call.specs.Salvage.{Salvage, salvaged, salvageOf}
+use Rattle.salvage_call.specs.Salvage.{salvaged, salvageOf}
 use Rattle.salvage_call.specs.declared.salvage.Salvaged.{Salvaged}
 use Rattle.salvage_bytes.specs.Calls.{salvageResult, salvagedBytes, resultOf, salvageAt}
 use Prim.Native.Nat.{ℕ}

@@ -62,7 +62,7 @@ fn back(answer: Salvaged, size: usize) -> usize
     }
 }
 
-// For every input. The table's buffer is as long as the largest table or longer, so 3 does not come (`theorems_salvage`).
+// For every input. The table's buffer is as long as the largest table or longer, so 3 never comes (`theorems_salvage::salvaged::enough_room`).
 pub fn tell(input: &[u8], table: &mut [u8; 65536], out: &mut [u8; 65536]) -> Told
     ensures { λ r. ⌜ printed r (now (table .exit)) (now (out .exit)) ≡ tellOf (now (input .entry)) (now (table .entry)) (now (out .entry)) ⌝ }
 {

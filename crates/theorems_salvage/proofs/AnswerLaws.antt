@@ -2,26 +2,27 @@
 -- Assumes nothing.
 use mathlib.Core.Path.{_≡_, refl, sym, ap, _∙_}
 use mathlib.Core.Bool.{Bool, true, false}
-use mathlib.Core.List.{List, [], _++_}
+use mathlib.Core.List.{List, []}
 use Prim.Native.Nat.{ℕ, _+_, _*_, _≤_}
 use native.Mathlib.Omega.{arith}
 use borrow.Author.Tests.{le-leb, leb-true}
 use lib.Dec.{leb}
 use lib.IntN.{ℤ, pos, negsuc, natAbs, pos-ne-negsuc}
-use lib.ListN.{length, drop}
+use lib.ListN.{length}
 use Rattle.octets.specs.Choice.{both, pick}
 use Rattle.octets.specs.Parts.{over}
 use Rattle.octets.proofs.PartLaws.{drop-over}
 use Rattle.octets.proofs.Tests.{both-reads}
 use Rattle.table.specs.Table.{sizeB, soundB, slotsIn}
+use Rattle.table.proofs.HeadLaws.{size-reads}
 use Rattle.salvage_run.specs.Runs.{inOrder}
 use Rattle.salvage_table.specs.Salvaged.{salvagedTable}
 use Rattle.salvage_report.specs.Report.{reportOf}
 use Rattle.salvage_call.specs.Salvage.{Salvage, salvaged, given, noneB, salvageOf, salvageNumber}
 use Rattle.salvage_call.specs.declared.salvage.Salvaged.the-variants.{Done, DoesNotFit, SizeImpossible, NoRecord}
 use Rattle.salvage_call.proofs.SalvageLaws.{length-salvaged, report-short}
-use Rattle.salvage_bytes.specs.Calls.{salvageResult, salvagedBytes, resultOf, salvageAt}
-use Rattle.theorems_salvage.specs.Answers.{AnswersWhen, Wrote, AtBoundary}
+use Rattle.salvage_bytes.specs.Calls.{salvagedBytes, resultOf, salvageAt}
+use Rattle.theorems_salvage.specs.Answers.{AnswersWhen, EnoughRoom, Wrote, AtBoundary}
 
 given-number : (new told table report : List ℕ)
     → salvageNumber (given new told table report .answer) ≡ pick (both (leb (length new) (length table)) (leb (length told) (length report))) 0 3
@@ -51,6 +52,20 @@ answers t table report = go (sizeB (length t)) refl (soundB t) (noneB (inOrder t
     go true q false false =
         given-number (salvagedTable t) (reportOf t) table report
         ∙ ap (λ (n : ℕ). pick (both (leb n (length table)) (leb (length (reportOf t)) (length report))) 0 3) (length-salvaged t q)
+    go false q s m = refl
+
+pub enough-room : EnoughRoom
+enough-room t table report a b = answers t table report ∙ go (sizeB (length t)) refl (soundB t) (noneB (inOrder t))
+  where
+    go : (z : Bool) → sizeB (length t) ≡ z → (s m : Bool)
+        → let room = leb (length t) (length table) in
+        _≡_ {A = ℕ}
+        (pick z (pick s (pick room 0 3) (pick m 21 (pick (both room (leb (length (reportOf t)) (length report))) 0 3))) 20)
+        (pick z (pick s 0 (pick m 21 0)) 20)
+    go true q s m =
+        let w = size-reads (length t) q in
+        let r = report-short t in
+        rw (le-leb (length t) (length table) (omega arith), le-leb (length (reportOf t)) (length report) (omega arith))
     go false q s m = refl
 
 -- what is written or not, for a table and a report

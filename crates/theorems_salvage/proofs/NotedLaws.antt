@@ -1,16 +1,16 @@
 -- What the report's bytes say of a slot, and where a slot that is kept stands in the new table.
 -- Assumes nothing.
-use mathlib.Core.Path.{_≡_, refl, sym, ap, _∙_}
+use mathlib.Core.Path.{_≡_, refl, ap, _∙_}
 use mathlib.Core.Bool.{Bool, true, false, not}
-use mathlib.Core.List.{List, [], _∷_, _++_, append-assoc}
+use mathlib.Core.List.{List, [], _++_, append-assoc}
 use Prim.Native.Nat.{ℕ, zero, suc, _+_, _*_, _-_, _/_, _%_, _≤_, _<_}
 use native.Mathlib.Omega.{arith}
-use borrow.Author.Tests.{eq-eqb, ne-eqb, eqb-true, eqb-false, leb-true, leb-false, ltb-true, le-leb, lt-leb}
-use lib.Dec.{eqb, leb, ltb}
-use lib.ListN.{length, drop}
+use borrow.Author.Tests.{ne-eqb, eqb-true, eqb-false, leb-true, leb-false, ltb-true}
+use lib.Dec.{eqb, leb}
+use lib.ListN.{length}
 use Rattle.octets.specs.Choice.{both, either, pick}
 use Rattle.octets.proofs.NumberLaws.{two}
-use Rattle.octets.proofs.Tests.{both-reads, both-yes, both-no}
+use Rattle.octets.proofs.Tests.{both-reads}
 use Rattle.table.specs.Table.{sizeB, slotsIn, slot, steps, headerAt}
 use Rattle.table.specs.declared.header.Header.{Header}
 use Rattle.table.proofs.HeadLaws.{size-reads}
@@ -19,9 +19,9 @@ use Rattle.salvage_run.specs.Runs.{beginOf, runOf}
 use Rattle.salvage_run.specs.declared.run.Run.{Run}
 use Rattle.salvage_run.proofs.OrderLaws.{begin-start}
 use Rattle.salvage_run.proofs.KeptLaws.{slotRead}
-use Rattle.salvage_table.specs.Salvaged.{cleaned, newHeader, salvagedTable}
+use Rattle.salvage_table.specs.Salvaged.{cleaned, newHeader}
 use Rattle.salvage_report.specs.Report.{le48, entry, changed, sizeEntries, placeEntries, headerEntries, turnOf, inRunB, slotEntry, slotEntries, keptB, notKept, reportOf}
-use Rattle.theorems_salvage.specs.Noted.{notedB, reportedB, OneOf, KeptOrReported}
+use Rattle.theorems_salvage.specs.Noted.{notedB, reportedB, KeptOrReported}
 use Rattle.theorems_salvage.proofs.TableLaws.{slot-at}
 
 -- one entry more in front

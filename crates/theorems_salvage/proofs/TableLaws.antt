@@ -1,21 +1,21 @@
 -- The table that is made of the kept slots: where they lie in it, that they are held with their numbers one after the other, and that it is sound.
 -- Assumes nothing.
 use mathlib.Core.Path.{_≡_, refl, sym, ap, _∙_, subst}
-use mathlib.Core.Bool.{Bool, true, false}
+use mathlib.Core.Bool.{true}
 use mathlib.Core.List.{List, [], _∷_, _++_, map, append-assoc}
 use Prim.Native.Nat.{ℕ, zero, suc, _+_, _*_, _-_, _%_, _≤_, _<_}
 use native.Mathlib.Omega.{arith}
 use borrow.Author.Tests.{ne-eqb}
 use lib.ListN.{length, take, drop, replicate}
-use lib.Seq.{take-at, drop-at, drop-drop, length-take-le, take-append-le, getD-take}
-use Rattle.octets.specs.Numbers.{at, le16}
+use lib.Seq.{take-at, drop-at, drop-drop, length-take-le}
+use Rattle.octets.specs.Numbers.{at}
 use Rattle.octets.specs.Parts.{part, zerosB, over, Bytes}
 use Rattle.octets.proofs.NumberLaws.{le16-small}
 use Rattle.octets.proofs.PartLaws.{bytes-append, bytes-take, bytes-drop, bytes-zeros}
 use Rattle.octets.proofs.Tests.{both-yes}
 use Rattle.record_write.specs.Layout.{recordOf}
 use Rattle.record.specs.declared.kinds.Record.{Record}
-use Rattle.table.specs.Table.{sizeB, slotsIn, count, oldest, next, capacity, headerAt, headerBytes, emptyB, slot, slots, ring, held, bytesIn, recordIn, nextSlot, after, first, slotB, rowB, soundB}
+use Rattle.table.specs.Table.{sizeB, slotsIn, count, oldest, next, capacity, headerAt, headerBytes, slot, slots, ring, held, bytesIn, recordIn, nextSlot, after, first, slotB, rowB}
 use Rattle.table.specs.declared.header.Header.{Header}
 use Rattle.table.proofs.HeadLaws.{size-reads, sound-makes, empty-some}
 use Rattle.table.proofs.RowLaws.{slot-makes}
@@ -30,7 +30,7 @@ use Rattle.salvage_run.proofs.KeptLaws.{slotRead, keptFrom, kept-inside, kept-r
 use Rattle.salvage_table.specs.Salvaged.{cleaned, cleanedAll, nextAfter, newHeader, salvagedTable}
 use Rattle.salvage_table.proofs.SlotsLaws.{length-kept, length-cleaned, cleaned-next, cleaned-end, cleaned-all, slot-size}
 use Rattle.salvage_call.proofs.SalvageLaws.{length-salvaged}
-use Rattle.theorems_salvage.specs.Result.{Holds, Comes, ComesBack}
+use Rattle.theorems_salvage.specs.Result.{ComesBack}
 
 -- a slot that is cleaned: the same length byte and record, zeros after it
 module _ (s : List ℕ) (size : length s ≡ 64) (counts : countsB s ≡ true) where

@@ -2,7 +2,7 @@
 -- Assumes nothing.
 use mathlib.Core.Path.{_≡_, refl, sym, ap, _∙_}
 use mathlib.Core.Bool.{Bool, true, false}
-use mathlib.Core.List.{List, [], _++_}
+use mathlib.Core.List.{List, []}
 use Prim.Native.Nat.{ℕ, _+_, _≤_}
 use native.Mathlib.Omega.{arith}
 use borrow.Author.Tests.{eqb-false}
@@ -16,7 +16,7 @@ use Rattle.table.proofs.HeadLaws.{sound-head, head-size, size-makes}
 use Rattle.salvage_run.specs.Runs.{inOrder, runOf}
 use Rattle.salvage_table.specs.Salvaged.{salvagedTable}
 use Rattle.salvage_report.specs.Report.{reportOf}
-use Rattle.salvage_call.specs.Salvage.{Salvage, salvaged, given, noneB, salvageOf}
+use Rattle.salvage_call.specs.Salvage.{salvaged, given, noneB, salvageOf}
 use Rattle.salvage_call.specs.declared.salvage.Salvaged.the-variants.{Done, DoesNotFit, SizeImpossible, NoRecord}
 use Rattle.salvage_call.proofs.SalvageLaws.{none-run, is-sound, length-salvaged}
 use Rattle.theorems_salvage.specs.Result.{Twice}

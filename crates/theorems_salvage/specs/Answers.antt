@@ -22,6 +22,11 @@ AnswersWhen = (t table report : List ℕ)
     (pick (soundB t) (pick room 0 3) (pick (noneB (inOrder t)) 21 (pick (both room (leb (length (reportOf t)) (length report))) 0 3)))
     20
 
+-- With room for the largest table and for any report, as the program has it, 3 never comes.
+abbrev pub EnoughRoom : Type 0
+EnoughRoom = (t table report : List ℕ) → 65488 ≤ length table → 16448 ≤ length report
+    → salvageNumber (salvageOf t table report .answer) ≡ pick (sizeB (length t)) (pick (soundB t) 0 (pick (noneB (inOrder t)) 21 0)) 20
+
 -- n bytes of the report were written, and the two rooms are then as in `after`
 pub record Wrote (t table report : List ℕ) (n : ℕ) (after : SalvagedBytes) : Type 0 where
   pub room : length t ≤ length table

@@ -9,7 +9,7 @@ use Rattle.octets.specs.Parts.{over, Bytes}
 use Rattle.table.specs.Table.{sizeB, soundB, count, next, ring, held, bytesIn, recordIn}
 use Rattle.salvage_run.specs.Runs.{runOf, keptSlots}
 use Rattle.salvage_table.specs.Salvaged.{nextAfter, salvagedTable}
-use Rattle.salvage_call.specs.Salvage.{Salvage, salvaged, salvageOf}
+use Rattle.salvage_call.specs.Salvage.{salvaged, salvageOf}
 use Rattle.salvage_call.specs.declared.salvage.Salvaged.the-variants.{Done}
 
 -- a table of a permitted size in which a slot counts

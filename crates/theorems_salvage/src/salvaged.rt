@@ -2,7 +2,7 @@
 ghost use Rattle.theorems_salvage.specs.Result.{ComesBack, Twice};
 ghost use Rattle.theorems_salvage.specs.Noted.{KeptOrReported};
 ghost use Rattle.theorems_salvage.specs.Carried.{CarriesAlike};
-ghost use Rattle.theorems_salvage.specs.Answers.{AnswersWhen, AtBoundary};
+ghost use Rattle.theorems_salvage.specs.Answers.{AnswersWhen, EnoughRoom, AtBoundary};
 
 // The table that comes back is sound, and its records are those of the run, unaltered.
 pub fn comes_back()
@@ -27,6 +27,11 @@ pub fn carries_alike()
 // Each refusal exactly where its row says so.
 pub fn answers()
     ensures { λ _. ⌜ AnswersWhen ⌝ }
+{}
+
+// With room for the largest table and any report, 3 never comes.
+pub fn enough_room()
+    ensures { λ _. ⌜ EnoughRoom ⌝ }
 {}
 
 // A refusal writes nothing; where it is done, the bytes past what is written stay, and the report is no longer than the header says.

@@ -1,6 +1,6 @@
 -- Whatever salvage answers, by its number.
 -- Assumes nothing.
-use mathlib.Core.Path.{_≡_, sym, ap, _∙_}
+use mathlib.Core.Path.{sym, ap, _∙_}
 use Prim.Native.Nat.{_≤_}
 use mir.Syntax.{w32}
 use mir.Facts.{toZ-pos}

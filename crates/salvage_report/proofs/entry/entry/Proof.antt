@@ -2,7 +2,6 @@
 -- Assumes nothing.
 use Rattle.salvage_report.specs.Report.{entry}
 use borrow.Author.Needs.{needs}
-use native.Mathlib.Omega.{arith}
 use Rattle.salvage_report.proofs.entry.entry.Statement.{statement}
 use Rattle.salvage_report.proofs.entry.entry.Tie as tie
 

@@ -1,6 +1,6 @@
 -- An entry laid over the report.
 -- Assumes nothing.
-use mathlib.Core.Path.{_≡_, sym, ap, _∙_}
+use mathlib.Core.Path.{ap, _∙_}
 use lib.ListN.{length}
 use Rattle.text.specs.Laid.{laid}
 use Rattle.salvage_report.proofs.ReportLaws.{length-entry}
