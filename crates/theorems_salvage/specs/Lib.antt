@@ -3,3 +3,4 @@ pub mod Noted
 pub mod Carried
 pub mod Answers
 pub mod Cases
+pub mod Wrong
