@@ -50,36 +50,36 @@ abbrev failed : ℕ → ℕ → ℕ → Record
 failed n b oldbase = TimeFault (record { sequence = n; status = 0x19; oldstatus = 0x16; faults = 0; base = b; oldbase = oldbase })
 
 -- case 1's record; set back 30 seconds; a fault 40 seconds later; a time after it
-abbrev first : Record
+abbrev pub first : Record
 first = set 0 0x19 0 800000000 631152000
 
-abbrev back : Record
+abbrev pub back : Record
 back = set 1 0x16 0 800000070 800000100
 
-abbrev fault : Record
+abbrev pub fault : Record
 fault = failed 2 800000070 800000110
 
-abbrev again : Record
+abbrev pub again : Record
 again = set 3 0x19 1 800000000 800000070
 
 -- a table with these bytes from the place p on
 abbrev with : List ℕ → ℕ → List ℕ → List ℕ
 with t p b = over t p b
 
-abbrev t0 : List ℕ
+abbrev pub t0 : List ℕ
 t0 = fresh 4
 
-abbrev logged : List Record → List ℕ
+abbrev pub logged : List Record → List ℕ
 logged rs = logAll t0 rs
 
-abbrev t1 : List ℕ
+abbrev pub t1 : List ℕ
 t1 = logged (first ∷ [])
 
-abbrev t3 : List ℕ
+abbrev pub t3 : List ℕ
 t3 = logged (first ∷ back ∷ [])
 
 -- records 1 to 4 in four slots
-abbrev tf : List ℕ
+abbrev pub tf : List ℕ
 tf =
     logged (first
     ∷ set 1 0x16 0 800000001 800000000
@@ -88,7 +88,7 @@ tf =
     ∷ set 4 0x16 0 800000004 800000003
     ∷ [])
 
-abbrev rolled : List ℕ
+abbrev pub rolled : List ℕ
 rolled =
     logAll (with t0 8 (bytes2 65534))
     (set 65534 0x16 0 800000010 800000000

@@ -1,0 +1,40 @@
+-- The window first; then what carrying answers on both sides, which its own promise says is small.
+-- Assumes nothing.
+use mathlib.Core.Path.{_≡_, sym, ap, _∙_}
+use Rattle.carry.proofs.CarryLaws.{bounded}
+use Rattle.ramp.specs.Beast.{verdictOf}
+use Rattle.ramp.proofs.BeastLaws.{too-wide, narrow}
+use borrow.Author.Needs.{needs}
+use native.Mathlib.Omega.{arith}
+use Rattle.ramp.proofs.beast.one_beast.Statement.{statement}
+use Rattle.ramp.proofs.beast.one_beast.Tie as tie
+
+returns : tie.Need-returns
+returns c =
+    let a = c .before .before .before .args in
+    too-wide (a .left) (a .left-table .now) (a .right) (a .right-table .now) (a .window) (c .if1 .taken)
+
+carry-requires : tie.Need-carry-requires
+carry-requires c κs = search needs
+
+carry-requires-2 : tie.Need-carry-requires-2
+carry-requires-2 c κs = search needs
+
+judged-requires : tie.Need-judged-requires
+judged-requires c κs =
+    let k = c .before .before in
+    let a = k .before .before .before .args in (
+      λ z e. bounded .carried-small (a .left .stamp) (a .left .next) (a .left-table .now) z (omega arith) (sym (c .before .carry .ensures) ∙ e),
+      λ z e. bounded .carried-small (a .right .stamp) (a .right .next) (a .right-table .now) z (omega arith) (sym (c .carry2 .ensures) ∙ e),
+    )
+
+returns-2 : tie.Need-returns-2
+returns-2 c =
+    let k = c .before .before .before in
+    let a = k .before .before .before .args in
+    c .judged .ensures
+    ∙ rw (c .before .before .carry .ensures, c .before .carry2 .ensures)
+    (sym (narrow (a .left) (a .left-table .now) (a .right) (a .right-table .now) (a .window) (k .if1 .left)))
+
+pub one-beast-spec : {M : Type 1} → statement M
+one-beast-spec = tie.close (tie.spec returns carry-requires carry-requires-2 judged-requires returns-2)

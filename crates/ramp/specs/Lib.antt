@@ -1,0 +1,3 @@
+pub mod Beast
+pub mod Theorems
+pub mod Cases
