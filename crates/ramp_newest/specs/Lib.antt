@@ -1,0 +1,2 @@
+pub mod Newest
+pub mod Theorems
