@@ -10,7 +10,8 @@
  * ANSWERS. Every function returns an int32_t. At least 0: done, and the answer is what the function says.
  * Below 0: refused, and minus the answer is the refusal number (DTS_REFUSED_..). Refusals are tested in
  * the order in which each function lists them, and the first that applies is the answer. A refused call
- * leaves every lent byte as it was; the one exception is dts_join, which then zeroes the joining state.
+ * leaves every lent byte as it was, with these exceptions: dts_join then zeroes the joining state;
+ * dts_one_beast and dts_newest_update say in a number of the caller's which side was refused.
  * Every input has an answer; there is no "undefined if the table is damaged".
  *
  * BUFFERS. A buffer is a pointer and its length in bytes. Bytes of `out` past those that the answer counts
@@ -57,7 +58,8 @@
  *   - no length is larger than its buffer, and none exceeds PTRDIFF_MAX;
  *   - buffers lent to one call do not overlap, and nobody else changes them during the call (an interrupt
  *     that calls into the same state does);
- *   - `fields` points to DTS_FIELDS numbers and `carried` to one int64_t, aligned for their types;
+ *   - `fields` points to DTS_FIELDS numbers, `part` to DTS_PART_NUMBERS, `carried` to one int64_t and `side` to
+ *     one uint32_t, aligned for their types;
  *   - memcpy, memmove, memset and memcmp do what C says;
  *   - there is stack below the call: at most 128 bytes for dts_join and dts_read, at most 640 for any other,
  *     measured on both processors (docs/BENCHMARKS.md has each);
@@ -125,7 +127,7 @@ extern "C" {
 
 /* This header's version: see VERSION above. */
 #define DTS_VERSION_MAJOR 4
-#define DTS_VERSION_MINOR 1
+#define DTS_VERSION_MINOR 2
 
 /* Sizes, in bytes. */
 enum {
@@ -160,7 +162,7 @@ enum {
 /* dts_notify adds this to the number of bytes where they close the report. */
 enum { DTS_CLOSING = 256 };
 
-/* Refusal numbers; an answer below 0 is minus one of these. There is no 9, and none from 14 to 19 or 22. */
+/* Refusal numbers; an answer below 0 is minus one of these. There is no 9, and none from 14 to 17 or 22. */
 enum {
     DTS_REFUSED_TABLE = 1,        /* the log table is not sound */
     DTS_REFUSED_STATE = 2,        /* the state has another length, another encoding, or breaks a rule */
@@ -174,6 +176,8 @@ enum {
     DTS_REFUSED_RECORD = 11,      /* the bytes are not a well-formed record */
     DTS_REFUSED_NOT_HELD = 12,    /* a record logged after the stamp is no longer held */
     DTS_REFUSED_FAULT = 13,       /* a Time_Fault lies after the stamp */
+    DTS_REFUSED_WINDOW = 18,      /* the window is wider than DTS_WIDEST_WINDOW seconds */
+    DTS_REFUSED_NO_UPDATE = 19,   /* neither of two log tables holds a Time_Update */
     DTS_REFUSED_SIZE = 20,        /* no log table has so many bytes */
     DTS_REFUSED_NO_RECORD = 21,   /* a damaged log table without one well-formed record */
     DTS_REFUSED_NOT_NEXT = 23     /* the number of a record to be kept does not follow */
@@ -473,6 +477,52 @@ enum {
     DTS_ENTRY_NEXT = 4,           /* the next sequence number */
     DTS_ENTRY_REST = 5            /* header bytes 10-15 */
 };
+
+/* ---- The tablet: a ramp of two antennas ---- */
+
+/* The two sides of a ramp, and what dts_one_beast answers. */
+enum {
+    DTS_SIDE_NONE = 0,
+    DTS_SIDE_LEFT = 1,
+    DTS_SIDE_RIGHT = 2
+};
+enum {
+    DTS_ONE_BEAST = 1,
+    DTS_TWO_BEASTS = 2
+};
+enum { DTS_WIDEST_WINDOW = 60 };  /* in seconds */
+
+/*
+ * One beast or two? Both antennas have read one ear tag. Of each side: its log now, or the tablet's own copy of it
+ * (dts_keep); its clock's Base_Time now, at one instant for both; the stamp it noted; and its log's next sequence
+ * number then. Each stamp is carried (dts_carry), and its age is its clock's Base_Time minus the carried stamp.
+ * Answers DTS_ONE_BEAST where the two ages differ by at most `window` seconds, else DTS_TWO_BEASTS, and sets *side
+ * to DTS_SIDE_NONE. So it is one beast exactly where at most so many seconds ran between the two reads, however often
+ * either clock was set, if fewer than 65,536 records were logged on each side since.
+ * Refuses: 18 (*side is DTS_SIDE_NONE); of the left side 1, 12, 13 (DTS_SIDE_LEFT); of the right side 1, 12, 13
+ * (DTS_SIDE_RIGHT).
+ */
+int32_t dts_one_beast(const uint8_t *left, size_t left_length, uint32_t left_base, uint32_t left_stamp,
+                      uint16_t left_next, const uint8_t *right, size_t right_length, uint32_t right_base,
+                      uint32_t right_stamp, uint16_t right_next, uint32_t window, uint32_t *side);
+
+/* Where dts_newest_update puts what. */
+enum {
+    DTS_PART_SIDE = 0,            /* DTS_SIDE_.. */
+    DTS_PART_OFFSET = 1,          /* of the record's first byte, from that table's start */
+    DTS_PART_LENGTH = 2,          /* the record's bytes */
+    DTS_PART_NUMBERS = 3
+};
+
+/*
+ * The later of two logs' newest Time_Updates: of each log the newest by age, and of these two the one with the
+ * larger new base, the left one where they are equal, the only one where the other log holds none.
+ * Answers 0 and sets part: which table, and where in it the record's bytes stand, for dts_read.
+ * Refuses: 1 of the left table, 1 of the right one, 19. Then part's side is the refused table's (DTS_SIDE_NONE
+ * for 19), its offset and its length are 0.
+ */
+int32_t dts_newest_update(const uint8_t *left, size_t left_length, const uint8_t *right, size_t right_length,
+                          uint32_t part[DTS_PART_NUMBERS]);
 
 #ifdef __cplusplus
 }
