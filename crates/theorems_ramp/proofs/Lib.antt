@@ -1,0 +1,3 @@
+pub mod BeastLaws
+pub mod ByteLaws
+pub mod WrongLaws

@@ -1,0 +1,4 @@
+pub mod OneBeast
+pub mod OneBeastAt
+pub mod Cases
+pub mod Wrong
