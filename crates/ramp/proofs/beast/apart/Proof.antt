@@ -21,28 +21,32 @@ up-is c = rw (toZ-ofZ (c .fits .a), toZ-ofZ (c .fits .b))
 down-is : (c : tie.Start) → toZ w64 (ofZ w64 (c .args .a)) -ℤ toZ w64 (ofZ w64 (c .args .b)) ≡ c .args .a -ℤ c .args .b
 down-is c = rw (toZ-ofZ (c .fits .a), toZ-ofZ (c .fits .b))
 
+-- each of the two differences fits
+both-fit : (c : tie.Start) → SFits w64 (c .args .a -ℤ c .args .b) × SFits w64 (c .args .b -ℤ c .args .a)
+both-fit c = (apart-fits (c .args .a) (c .args .b) (c .pre .0) (c .pre .1), apart-fits (c .args .b) (c .args .a) (c .pre .1) (c .pre .0))
+
 sub-result : tie.Need-sub-result
-sub-result c = rw (up-is (c .before)) (apart-fits (c .before .args .b) (c .before .args .a) (c .before .pre .1) (c .before .pre .0))
+sub-result c = let f = both-fit (c .before) in rw (toZ-ofZ (c .before .fits .a), toZ-ofZ (c .before .fits .b)) (search (f .0, f .1))
 
 cast-result : tie.Need-cast-result
 cast-result c =
     let a = c .before .args in
     let t : ltZ (a .a) (a .b) ≡ true = rw (toZ-ofZ (c .before .fits .a), toZ-ofZ (c .before .fits .b)) at (c .if1 .taken) in
     rw (toZ-ofZ (sub-result c) ∙ up-is (c .before))
-    (up (a .a) (a .b) t, fits-natAbs tt (apart-fits (a .b) (a .a) (c .before .pre .1) (c .before .pre .0)))
+    (up (a .a) (a .b) t, fits-natAbs tt (both-fit (c .before) .1))
 
 returns : tie.Need-returns
 returns c = ap natAbs (toZ-ofZ (sub-result c) ∙ up-is (c .before)) ∙ apart-swap (c .before .args .a) (c .before .args .b)
 
 sub-result-2 : tie.Need-sub-result-2
-sub-result-2 c = rw (down-is (c .before)) (apart-fits (c .before .args .a) (c .before .args .b) (c .before .pre .0) (c .before .pre .1))
+sub-result-2 c = let f = both-fit (c .before) in rw (toZ-ofZ (c .before .fits .a), toZ-ofZ (c .before .fits .b)) (search (f .0, f .1))
 
 cast-result-2 : tie.Need-cast-result-2
 cast-result-2 c =
     let a = c .before .args in
     let t : ltZ (a .a) (a .b) ≡ false = rw (toZ-ofZ (c .before .fits .a), toZ-ofZ (c .before .fits .b)) at (c .if1 .left) in
     rw (toZ-ofZ (sub-result-2 c) ∙ down-is (c .before))
-    (down (a .a) (a .b) t, fits-natAbs tt (apart-fits (a .a) (a .b) (c .before .pre .0) (c .before .pre .1)))
+    (down (a .a) (a .b) t, fits-natAbs tt (both-fit (c .before) .0))
 
 returns-2 : tie.Need-returns-2
 returns-2 c = ap natAbs (toZ-ofZ (sub-result-2 c) ∙ down-is (c .before))

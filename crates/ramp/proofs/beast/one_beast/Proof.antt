@@ -2,7 +2,7 @@
 -- Assumes nothing.
 use mathlib.Core.Path.{_≡_, sym, ap, _∙_}
 use Rattle.carry.proofs.CarryLaws.{bounded}
-use Rattle.ramp.specs.Beast.{verdictOf}
+use Rattle.ramp.specs.Beast.{Sized}
 use Rattle.ramp.proofs.BeastLaws.{too-wide, narrow}
 use borrow.Author.Needs.{needs}
 use native.Mathlib.Omega.{arith}
@@ -20,13 +20,19 @@ carry-requires c κs = search needs
 carry-requires-2 : tie.Need-carry-requires-2
 carry-requires-2 c κs = search needs
 
+-- what was carried is small
+first-small : (c : tie.After-carry) → Sized (c .carry .result)
+first-small c z e =
+    let a = c .before .before .before .before .args in
+    bounded .carried-small (a .left .stamp) (a .left .next) (a .left-table .now) z (omega arith) (sym (c .carry .ensures) ∙ e)
+
+second-small : (c : tie.After-carry2) → Sized (c .carry2 .result)
+second-small c z e =
+    let a = c .before .before .before .before .before .args in
+    bounded .carried-small (a .right .stamp) (a .right .next) (a .right-table .now) z (omega arith) (sym (c .carry2 .ensures) ∙ e)
+
 judged-requires : tie.Need-judged-requires
-judged-requires c κs =
-    let k = c .before .before in
-    let a = k .before .before .before .args in (
-      λ z e. bounded .carried-small (a .left .stamp) (a .left .next) (a .left-table .now) z (omega arith) (sym (c .before .carry .ensures) ∙ e),
-      λ z e. bounded .carried-small (a .right .stamp) (a .right .next) (a .right-table .now) z (omega arith) (sym (c .carry2 .ensures) ∙ e),
-    )
+judged-requires c κs = let l = first-small (c .before) in let r = second-small c in search (l, r)
 
 returns-2 : tie.Need-returns-2
 returns-2 c =
