@@ -2,6 +2,7 @@
 //! runs in a program of its own, tests/c/pipe.c, emulated or not, and calls go to it through a
 //! pipe: every lent buffer there and back, so that nothing of a call is left to that program.
 
+use crate::ramp::{Part, Sightings, Tables};
 use crate::reader::Reader;
 use crate::record::Fields;
 use std::cell::RefCell;
@@ -33,6 +34,8 @@ enum Function {
     Parameters,
     AttError,
     Salvage,
+    OneBeast,
+    NewestUpdate,
 }
 
 enum Argument<'a> {
@@ -185,11 +188,9 @@ impl Reader for Archive {
     }
 
     fn read(&self, bytes: &[u8], fields: &mut Fields) -> i32 {
-        let mut lent: Vec<u8> = fields.iter().flat_map(|field| field.to_le_bytes()).collect();
+        let mut lent = lent_numbers(fields);
         let answer = self.call(Function::Read, &mut [Shown(bytes), Lent(&mut lent)]);
-        for (field, bytes) in fields.iter_mut().zip(lent.chunks_exact(4)) {
-            *field = u32::from_le_bytes(bytes.try_into().expect("four bytes"));
-        }
+        take_numbers(fields, &lent);
         answer
     }
 
@@ -223,5 +224,43 @@ impl Reader for Archive {
 
     fn salvage(&self, input: &[u8], table: &mut [u8], report: &mut [u8]) -> i32 {
         self.call(Function::Salvage, &mut [Shown(input), Lent(table), Lent(report)])
+    }
+
+    fn one_beast(
+        &self,
+        [left, right]: Tables,
+        sightings: Sightings,
+        window: u32,
+        side: &mut u32,
+    ) -> i32 {
+        let [of_left, of_right] = sightings.map(|s| [s.base, s.stamp, s.next.into()].map(Number));
+        let mut lent = side.to_le_bytes();
+        let mut arguments: Vec<Argument> = vec![Shown(left)];
+        arguments.extend(of_left);
+        arguments.push(Shown(right));
+        arguments.extend(of_right);
+        arguments.extend([Number(window), Lent(&mut lent)]);
+        let answer = self.call(Function::OneBeast, &mut arguments);
+        *side = u32::from_le_bytes(lent);
+        answer
+    }
+
+    fn newest_update(&self, [left, right]: Tables, part: &mut Part) -> i32 {
+        let mut lent = lent_numbers(part);
+        let arguments = &mut [Shown(left), Shown(right), Lent(&mut lent)];
+        let answer = self.call(Function::NewestUpdate, arguments);
+        take_numbers(part, &lent);
+        answer
+    }
+}
+
+/// Numbers as the bytes that are lent.
+fn lent_numbers(numbers: &[u32]) -> Vec<u8> {
+    numbers.iter().flat_map(|number| number.to_le_bytes()).collect()
+}
+
+fn take_numbers(numbers: &mut [u32], lent: &[u8]) {
+    for (number, bytes) in numbers.iter_mut().zip(lent.chunks_exact(4)) {
+        *number = u32::from_le_bytes(bytes.try_into().expect("four bytes"));
     }
 }

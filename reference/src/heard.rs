@@ -1,11 +1,12 @@
-//! What a tablet makes of a report as it is heard, and of stamps, and what it gets that asks for
-//! records by number: lines of text with a reader's answers, made with nothing but its public
-//! calls, so that those of any reader can be compared with the samples. Of each line only what
-//! comes before its answer is looked at.
+//! What a tablet makes of a report as it is heard, of stamps, and of a ramp's two antennas, and what
+//! it gets that asks for records by number: lines of text with a reader's answers, made with nothing
+//! but its public calls, so that those of any reader can be compared with the samples. Of each line
+//! only what comes before its answer is looked at.
 
 use crate::access::{NUMBER, REPORT};
 use crate::joining::JOINING_BYTES;
 use crate::numbers::PAPER;
+use crate::ramp::Sighting;
 use crate::reader::Reader;
 use crate::report::report;
 
@@ -48,6 +49,54 @@ pub fn carried(reader: &dyn Reader, table: &[u8], stamps: &str) -> String {
         lines += &format!("{stamp} {q} {answer}\n");
     }
     lines
+}
+
+/// Gives the table that a word names.
+pub type Named<'a> = dyn Fn(&str) -> Vec<u8> + 'a;
+
+/// Two reads and a window a line, each with what they are: of the left side its table, the clock, the
+/// stamp and its number, and the same of the right side.
+pub fn beasts(reader: &dyn Reader, named: &Named, reads: &str) -> String {
+    let mut lines = String::new();
+    for line in reads.lines() {
+        let words: Vec<&str> = line.split(' ').take(9).collect();
+        let [left, right] = [words[0], words[4]].map(named);
+        let sightings = [&words[1..4], &words[5..8]].map(sighting);
+        let mut side = 0;
+        let window = words[8].parse().unwrap();
+        let answer = match reader.one_beast([&left, &right], sightings, window, &mut side) {
+            1 => "one".to_string(),
+            2 => "two".to_string(),
+            refusal => format!("{}{}", side_word(side), -refusal),
+        };
+        lines += &format!("{} {answer}\n", words.join(" "));
+    }
+    lines
+}
+
+fn sighting(words: &[&str]) -> Sighting {
+    let number = |k: usize| words[k].parse::<u32>().unwrap();
+    Sighting { base: number(0), stamp: number(1), next: number(2) as u16 }
+}
+
+/// Two tables a line, each with the part that is the later of their newest updates.
+pub fn newest(reader: &dyn Reader, named: &Named, logs: &str) -> String {
+    let mut lines = String::new();
+    for line in logs.lines() {
+        let words: Vec<&str> = line.split(' ').take(2).collect();
+        let (left, right, mut part) = (named(words[0]), named(words[1]), [0; 3]);
+        let answer = match reader.newest_update([&left, &right], &mut part) {
+            0 => format!("{}{} {}", side_word(part[0]), part[1], part[2]),
+            refusal => format!("refused {}{}", side_word(part[0]), -refusal),
+        };
+        lines += &format!("{} {answer}\n", words.join(" "));
+    }
+    lines
+}
+
+/// With the space after it; none where there is no side.
+fn side_word(side: u32) -> &'static str {
+    ["", "left ", "right "][side as usize]
 }
 
 /// An operator and its operand a line in hexadecimal, each with the response to their number and

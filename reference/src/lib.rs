@@ -1,5 +1,6 @@
 //! A reader of the Device Time Service: its clock, its Time Change Log, its two control points,
-//! segmented notifications, and the tablet's joining, reading, keeping, carrying and salvaging.
+//! segmented notifications, and the tablet's joining, reading, keeping, carrying, salvaging and
+//! telling one beast from two.
 //!
 //! This is the build paper in ordinary Rust, written to be read and to be compared with. Every
 //! call works on the byte images of the C boundary and has an answer for every input.
@@ -20,11 +21,12 @@
 //! | `keep` | the tablet's own copy of a log; not in the paper |
 //! | `carry` | Carrying a stamp |
 //! | `salvage` | Getting a log back from a wet reader |
+//! | `ramp` | Ramp crate: one beast or two |
 //! | `listing` | the listing program's lines |
 //! | `calendar` | What the log showed, on a calendar |
 //! | `dates` | the lines of the program that turns seconds to dates and back |
 //! | `report` | the lines of a whole report over the air |
-//! | `heard` | lines with what a tablet makes of a report, and of stamps |
+//! | `heard` | lines with what a tablet makes of a report, of stamps, and of a ramp's antennas |
 //! | `season` | Season figures from all the readers |
 //! | `reader` | all calls as one trait, and the reference behind it |
 //! | `world` | the buffers a caller lends, together |
@@ -37,7 +39,7 @@
 //! | `zones` | made tables of every zone and DST, and a calendar program compared on them |
 //! | `days` | made seconds, both ends of every day among them, and a dates program compared on them |
 //! | `soaked` | made damaged tables, and a reader and a salvage program compared on them |
-//! | `mutants` | readers, season, calendar, dates and salvage programs wrong in one number or step |
+//! | `mutants` | readers, ramps, season, calendar, dates and salvage programs wrong in one number or step |
 //! | `archive` | the proved archive as a reader, behind a program |
 
 #![forbid(unsafe_code)]
@@ -62,6 +64,7 @@ pub mod numbers;
 pub mod octets;
 pub mod once;
 pub mod program;
+pub mod ramp;
 pub mod random;
 pub mod reader;
 pub mod record;

@@ -21,9 +21,9 @@ use reference::archive::Archive;
 use reference::concatenation;
 use reference::days;
 use reference::history::play;
-use reference::mutants::{spoiled, MUTANTS};
+use reference::mutants::{spoiled, wrong_ramps, MUTANTS};
 use reference::program::{command, reporting_command, Program};
-use reference::random::{compare, differing};
+use reference::random::{compare, differing, untold};
 use reference::reader::{Reader, Reference};
 use reference::soaked;
 use reference::vectors::play_all;
@@ -37,6 +37,8 @@ const USAGE: &str = "usage: reference [--archive COMMAND] [--calls N] [--seed S]
 /// How many mutants the archive is compared with, and how many calls each may take.
 const MUTANTS_TRIED: usize = 15;
 const MUTANT_CALLS: usize = 60_000;
+/// Calls in which the archive must be told from each wrong ramp.
+const RAMP_CALLS: usize = 40_000;
 /// Of "Every record once" on the archive.
 const HISTORIES: u64 = 40;
 /// Made tables that the archive salvages.
@@ -124,16 +126,17 @@ fn split(words: &str) -> Vec<String> {
     words.split_whitespace().map(str::to_string).collect()
 }
 
-/// All five parts, whatever the first says.
+/// All six parts, whatever the first says.
 fn archive_passes(archive: &Archive, calls: usize, seed: u64) -> bool {
     let passed = [
         vectors_pass(archive),
         no_difference("the archive", archive, calls, seed),
         mutants_are_noticed(archive, seed),
+        ramps_are_noticed(archive, seed),
         hands_over_once(archive, seed),
         salvages(archive, seed),
     ];
-    passed == [true; 5]
+    passed == [true; 6]
 }
 
 fn vectors_pass(archive: &Archive) -> bool {
@@ -163,6 +166,15 @@ fn mutants_are_noticed(archive: &Archive, seed: u64) -> bool {
         .collect();
     let noticed = MUTANTS_TRIED - missed.len();
     println!("{noticed} of {MUTANTS_TRIED} mutants of the reference told from the archive");
+    none_missed(&missed)
+}
+
+/// Change request E5: the archive is asked once, and each wrong ramp is put beside its answers.
+fn ramps_are_noticed(archive: &Archive, seed: u64) -> bool {
+    let ramps = wrong_ramps();
+    let wrong = ramps.len();
+    let missed = untold(archive, ramps, seed, RAMP_CALLS);
+    println!("{} of {wrong} wrong ramps told from the archive", wrong - missed.len());
     none_missed(&missed)
 }
 

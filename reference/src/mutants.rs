@@ -1,5 +1,6 @@
-//! Readers that are wrong in one number or one step each, and season, calendar, dates and salvage
-//! programs that are wrong in one: a comparison is worth what it notices of these.
+//! Readers that are wrong in one number or one step each, those of a ramp among them, and season,
+//! calendar, dates and salvage programs that are wrong in one: a comparison is worth what it notices
+//! of these.
 
 use crate::access::{matches, Filter};
 use crate::calendar::{
@@ -8,8 +9,13 @@ use crate::calendar::{
 use crate::dates::{is_cut, whole_numbers, Turning, NUMBER_BYTES};
 use crate::numbers::{Numbers, PAPER};
 use crate::octets::{all_zero, u16_at, u32_at};
+use crate::ramp::{
+    self, carried_of, log_of, updates, window_taken, Carried, Found, Newest, Ramp, Refused, Side,
+    Sighting, Sightings, Tables, NO_UPDATE,
+};
+use crate::random::ANY_UPDATE;
 use crate::reader::Reference;
-use crate::record::{self, Record};
+use crate::record::{self, Record, TimeUpdate};
 use crate::refusal::Refusal;
 use crate::salvage::{
     all_fields, not_kept, once_round, record_of, room_for_both, sound_as_it_is, Entry as Reported,
@@ -58,6 +64,8 @@ pub const MUTANTS: &[Mutant] = &[
     Mutant { name: "at most v takes the record after it", spoil: |n| n.matches = one_newer },
     Mutant { name: "at least one before the oldest is all", spoil: |n| n.matches = before_as_all },
     Mutant { name: "a turned range is turned back", spoil: |n| n.matches = turned_back },
+    Mutant { name: "windows of up to 61 seconds", spoil: |n| n.widest_window = 61 },
+    Mutant { name: "windows of up to 59 seconds", spoil: |n| n.widest_window = 59 },
 ];
 
 impl<T: Clone> Mutant<T> {
@@ -87,6 +95,12 @@ pub fn wrong_with_dates<T: Clone>(
 /// The reference with that number or step spoiled.
 pub fn spoiled(mutant: &Mutant) -> Reference {
     Reference { numbers: mutant.of(&PAPER), ..Reference::new() }
+}
+
+/// Each wrong ramp with the reference around it.
+pub fn wrong_ramps() -> Vec<(&'static str, Reference)> {
+    let with = |ramp| Reference { ramp, ..Reference::new() };
+    wrong(WRONG_RAMPS, &ramp::PAPER).into_iter().map(|(name, ramp)| (name, with(ramp))).collect()
 }
 
 /// The reference with this salvage.
@@ -564,4 +578,202 @@ fn room_for_an_entry(found: Result<Salvaged, Refusal>, lent: Lent) -> Result<Sal
 fn zeros_after(room: &mut [u8], bytes: &[u8]) {
     room.fill(0);
     room[..bytes.len()].copy_from_slice(bytes);
+}
+
+pub const WRONG_RAMPS: &[Mutant<Ramp>] = &[
+    Mutant { name: "ages stop at 0", spoil: |r| r.age = |s, carried| age(s, carried).max(0) },
+    Mutant {
+        name: "ages in 32 bits without sign",
+        spoil: |r| r.age = |s, carried| i64::from(age(s, carried) as u32),
+    },
+    Mutant {
+        name: "ages in 32 bits with sign",
+        spoil: |r| r.age = |s, carried| i64::from(age(s, carried) as i32),
+    },
+    Mutant { name: "carried stamps instead of ages", spoil: |r| r.age = |_, carried| carried },
+    Mutant { name: "stamps as they were noted", spoil: |r| r.age = |s, _| s.stamp.into() },
+    Mutant {
+        name: "ages of stamps as they were noted",
+        spoil: |r| r.age = |s, _| age(s, s.stamp.into()),
+    },
+    Mutant {
+        name: "less than the window",
+        spoil: |r| r.is_one = |[left, right], window| left.abs_diff(right) < window.into(),
+    },
+    Mutant {
+        name: "any time after the left read",
+        spoil: |r| r.is_one = |[left, right], window| right - left <= window.into(),
+    },
+    Mutant {
+        name: "any time after the right read",
+        spoil: |r| r.is_one = |[left, right], window| left - right <= window.into(),
+    },
+    Mutant { name: "the right stamp first", spoil: |r| r.carried = right_stamp_first },
+    Mutant { name: "the window last", spoil: |r| r.carried = window_last },
+    Mutant { name: "both tables before a stamp", spoil: |r| r.carried = tables_before_stamps },
+    Mutant {
+        name: "both stamps over the left log",
+        spoil: |r| {
+            r.carried = |n, [left, _], reads, window| carried(n, [left, left], reads, window)
+        },
+    },
+    Mutant {
+        name: "each stamp over the other log",
+        spoil: |r| {
+            r.carried = |n, [left, right], reads, window| carried(n, [right, left], reads, window)
+        },
+    },
+    Mutant { name: "a refusal names no side", spoil: |r| r.carried = of_no_side },
+    Mutant { name: "the largest base of any update", spoil: |r| r.newest_of = largest_of_all },
+    Mutant {
+        name: "the oldest update",
+        spoil: |r| r.newest_of = |numbers, log| updates(numbers, log).into_iter().next(),
+    },
+    Mutant { name: "a fault taken for an update", spoil: |r| r.newest_of = newest_of_any_type },
+    Mutant { name: "the newest record or none", spoil: |r| r.newest_of = newest_if_update },
+    Mutant { name: "slots counted by age", spoil: |r| r.newest_of = place_by_age },
+    Mutant {
+        name: "the right one of equal bases",
+        spoil: |r| r.later = |newest| right_if(newest, |left, right| left.base <= right.base),
+    },
+    Mutant {
+        name: "the smaller base",
+        spoil: |r| r.later = |newest| right_if(newest, |left, right| right.base < left.base),
+    },
+    Mutant {
+        name: "bases with a sign",
+        spoil: |r| {
+            r.later =
+                |newest| right_if(newest, |left, right| (left.base as i32) < right.base as i32)
+        },
+    },
+    Mutant {
+        name: "the larger old base",
+        spoil: |r| {
+            r.later = |newest| right_if(newest, |left, right| left.old_base < right.old_base)
+        },
+    },
+    Mutant {
+        name: "the larger number",
+        spoil: |r| {
+            r.later = |newest| right_if(newest, |left, right| left.sequence < right.sequence)
+        },
+    },
+    Mutant {
+        name: "the left one if there is one",
+        spoil: |r| r.later = |newest| right_if(newest, |_, _| false),
+    },
+    Mutant { name: "19 where one side has none", spoil: |r| r.later = only_of_two },
+    Mutant { name: "19 before the tables", spoil: |r| r.newest = none_before_tables },
+    Mutant { name: "the right table first", spoil: |r| r.newest = right_table_first },
+    Mutant { name: "no update in an unsound table", spoil: |r| r.newest = none_if_unsound },
+    Mutant {
+        name: "the slot, not the record",
+        spoil: |r| r.part = |side, found| [side as u32, found.bytes.start as u32 - 1, 64],
+    },
+    Mutant {
+        name: "the length byte too",
+        spoil: |r| r.part = |side, found| [side as u32, found.bytes.start as u32 - 1, 25],
+    },
+];
+
+fn age(sighting: &Sighting, carried: i64) -> i64 {
+    (ramp::PAPER.age)(sighting, carried)
+}
+
+fn carried(numbers: &Numbers, tables: Tables, sightings: Sightings, window: u32) -> Carried {
+    (ramp::PAPER.carried)(numbers, tables, sightings, window)
+}
+
+fn right_stamp_first(
+    numbers: &Numbers,
+    [left, right]: Tables,
+    [of_left, of_right]: Sightings,
+    window: u32,
+) -> Carried {
+    window_taken(numbers, window)?;
+    let right = carried_of(numbers, Side::Right, right, of_right)?;
+    Ok([carried_of(numbers, Side::Left, left, of_left)?, right])
+}
+
+fn window_last(numbers: &Numbers, tables: Tables, sightings: Sightings, window: u32) -> Carried {
+    let carried = carried(numbers, tables, sightings, 0)?;
+    window_taken(numbers, window)?;
+    Ok(carried)
+}
+
+fn tables_before_stamps(
+    numbers: &Numbers,
+    tables: Tables,
+    sightings: Sightings,
+    window: u32,
+) -> Carried {
+    window_taken(numbers, window)?;
+    log_of(numbers, Side::Left, tables[0])?;
+    log_of(numbers, Side::Right, tables[1])?;
+    carried(numbers, tables, sightings, window)
+}
+
+fn of_no_side(numbers: &Numbers, tables: Tables, sightings: Sightings, window: u32) -> Carried {
+    carried(numbers, tables, sightings, window)
+        .map_err(|refused| Refused { side: Side::Neither, ..refused })
+}
+
+fn largest_of_all(numbers: &Numbers, log: &Log) -> Option<Found> {
+    updates(numbers, log).into_iter().max_by_key(|found| found.update.base)
+}
+
+fn newest_of_any_type(numbers: &Numbers, log: &Log) -> Option<Found> {
+    let age = log.shape.held.checked_sub(1)?;
+    let update = match record::read(numbers, log.record(age))? {
+        Record::Update(update) => update,
+        Record::Fault(fault) => TimeUpdate { base: fault.base, ..ANY_UPDATE },
+    };
+    Some(Found { update, bytes: log.place(age) })
+}
+
+fn newest_if_update(numbers: &Numbers, log: &Log) -> Option<Found> {
+    let newest = log.place(log.shape.held.checked_sub(1)?);
+    updates(numbers, log).pop().filter(|found| found.bytes == newest)
+}
+
+/// As if the oldest record always stood in the first slot.
+fn place_by_age(numbers: &Numbers, log: &Log) -> Option<Found> {
+    let found = (ramp::PAPER.newest_of)(numbers, log)?;
+    let at = offset_of(log.age_of(numbers, found.update.sequence)?) + 1;
+    Some(Found { bytes: at..at + found.bytes.len(), ..found })
+}
+
+/// Of two the right one if this says so, else the left one.
+fn right_if(newest: Newest, says: fn(&TimeUpdate, &TimeUpdate) -> bool) -> Option<(Side, Found)> {
+    match newest {
+        [Some(left), Some(right)] if says(&left.update, &right.update) => {
+            Some((Side::Right, right))
+        }
+        [Some(left), Some(_)] => Some((Side::Left, left)),
+        newest => (ramp::PAPER.later)(newest),
+    }
+}
+
+fn only_of_two(newest: Newest) -> Option<(Side, Found)> {
+    let both = newest.iter().all(Option::is_some);
+    (ramp::PAPER.later)(newest).filter(|_| both)
+}
+
+fn none_before_tables(ramp: &Ramp, numbers: &Numbers, tables: Tables) -> Result<Newest, Refused> {
+    let [left, right] = none_if_unsound(ramp, numbers, tables)?;
+    if left.is_none() && right.is_none() {
+        return Err(NO_UPDATE);
+    }
+    (ramp::PAPER.newest)(ramp, numbers, tables)
+}
+
+fn right_table_first(ramp: &Ramp, numbers: &Numbers, tables: Tables) -> Result<Newest, Refused> {
+    log_of(numbers, Side::Right, tables[1])?;
+    (ramp::PAPER.newest)(ramp, numbers, tables)
+}
+
+fn none_if_unsound(ramp: &Ramp, numbers: &Numbers, tables: Tables) -> Result<Newest, Refused> {
+    let newest_of = |table| (ramp.newest_of)(numbers, &Log::open(numbers, table).ok()?);
+    Ok(tables.map(newest_of))
 }

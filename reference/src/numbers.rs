@@ -47,6 +47,8 @@ pub struct Numbers {
     pub last_bit: u8,
     /// A season's figures are of at most so many tables.
     pub most_tables: u32,
+    /// Two reads are one beast's within a window of at most so many seconds.
+    pub widest_window: u32,
 }
 
 pub const PAPER: Numbers = Numbers {
@@ -73,6 +75,7 @@ pub const PAPER: Numbers = Numbers {
     first_bit: 0x01,
     last_bit: 0x02,
     most_tables: 65_535,
+    widest_window: 60,
 };
 
 impl Numbers {

@@ -6,12 +6,14 @@
 //! buffers must be equal. A mismatch is cut down to a sequence from which no step can be left
 //! out.
 
+use crate::carry::carry;
 use crate::numbers::PAPER;
 use crate::octets::{put_u16, put_u32, u16_at, u32_at};
+use crate::ramp::{updates, Sighting, Sightings};
 use crate::reader::Reader;
 use crate::record::{self, Record, TimeFault, TimeUpdate};
 use crate::salvage::{ENTRY_BYTES, FIELDS};
-use crate::table::{self, Shape, HEADER_BYTES, SLOT_BYTES};
+use crate::table::{self, Log, Shape, HEADER_BYTES, SLOT_BYTES};
 use crate::world::{Buffer, Call, World, FILL};
 use std::collections::VecDeque;
 use std::fmt;
@@ -80,6 +82,8 @@ pub enum Step {
     Bytes(Buffer, usize, Vec<u8>),
     /// The buffer becomes this sound table.
     Table(Plan),
+    /// The ramp's two readers change places.
+    Exchange,
 }
 
 pub struct Mismatch {
@@ -173,6 +177,25 @@ pub fn watch(reader: &dyn Reader, seed: u64, calls: usize, watcher: &mut Watcher
     }
 }
 
+/// Those of the others that answer and leave everything as the reader does, at each of this many
+/// calls.
+pub fn untold<R: Reader>(
+    reader: &dyn Reader,
+    mut others: Vec<(&'static str, R)>,
+    seed: u64,
+    calls: usize,
+) -> Vec<&'static str> {
+    watch(reader, seed, calls, &mut |step, answer, before, after| {
+        if answer.is_some() {
+            others.retain(|(_, other)| {
+                let mut world = before.clone();
+                play(other, &mut world, step) == answer && world == *after
+            });
+        }
+    });
+    others.into_iter().map(|(name, _)| name).collect()
+}
+
 /// Plays a step; the answer, if it was a call.
 pub fn play(reader: &dyn Reader, world: &mut World, step: &Step) -> Option<i32> {
     match step {
@@ -181,6 +204,7 @@ pub fn play(reader: &dyn Reader, world: &mut World, step: &Step) -> Option<i32> 
         Step::Length(buffer, length) => world.buffer(*buffer).resize(*length, 0),
         Step::Bytes(buffer, at, bytes) => world.poke(*buffer, *at, bytes),
         Step::Table(plan) => world.table = planned_table(plan),
+        Step::Exchange => world.exchange(),
     }
     None
 }
@@ -211,13 +235,19 @@ pub fn first_difference(a: &World, b: &World) -> String {
         ("output", &a.out, &b.out),
         ("salvaged", &a.salvaged, &b.salvaged),
         ("findings", &a.findings, &b.findings),
+        ("right state", &a.right_state, &b.right_state),
+        ("right table", &a.right, &b.right),
     ];
     for (name, a, b) in buffers {
         if let Some(at) = (0..a.len().max(b.len())).find(|at| a.get(*at) != b.get(*at)) {
             return format!("{name} byte {at}: {:02X?} and {:02X?}", a.get(at), b.get(at));
         }
     }
-    format!("fields {:?} and {:?}, carried {} and {}", a.fields, b.fields, a.carried, b.carried)
+    let numbers = |world: &World| {
+        let World { fields, carried, side, part, .. } = world;
+        format!("fields {fields:?} carried {carried} side {side} part {part:?}")
+    };
+    format!("{} and {}", numbers(a), numbers(b))
 }
 
 /// Leaves out ever smaller runs of steps, at last single ones, as long as the rest still shows
@@ -355,6 +385,9 @@ const STATUS_EDGES: [u16; 12] = [
 ];
 const SENT_EDGES: [u8; 9] = [0, 1, 18, 19, 20, 23, 24, 25, 255];
 
+/// The paper's first case: from then on the clock is of the highest grade.
+const FIRST_UPDATE: [u8; 11] = [2, 0x43, 0, 0x00, 0x08, 0xAF, 0x2F, 0x04, 0, 2, 1];
+
 /// Bytes to put into the table: of its header, of a slot (held or not), a whole slot.
 pub fn table_damage(random: &mut Random, table: &[u8]) -> Option<(usize, Vec<u8>)> {
     let slots = table.len().checked_sub(HEADER_BYTES)? / SLOT_BYTES;
@@ -426,12 +459,18 @@ struct Maker {
     random: Random,
     queue: VecDeque<Step>,
     refused_in_a_row: usize,
+    /// Of both readers a stamp and the next number, taken earlier.
+    noted: Option<[(u32, u16); 2]>,
 }
 
 impl Maker {
     fn new(seed: u64) -> Maker {
-        let mut maker =
-            Maker { random: Random::new(seed), queue: VecDeque::new(), refused_in_a_row: 0 };
+        let mut maker = Maker {
+            random: Random::new(seed),
+            queue: VecDeque::new(),
+            refused_in_a_row: 0,
+            noted: None,
+        };
         maker.set_up();
         maker
     }
@@ -460,9 +499,18 @@ impl Maker {
         self.queue.push_back(Step::Call(call));
     }
 
-    /// A reader just started, or one over a table that already holds records.
+    /// Both readers of a ramp.
     fn set_up(&mut self) {
         self.refused_in_a_row = 0;
+        self.noted = None;
+        self.add(Step::Lend(Buffer::Output, 244));
+        self.set_up_reader();
+        self.add(Step::Exchange);
+        self.set_up_reader();
+    }
+
+    /// A reader just started, or one over a table that already holds records; its clock is set or not.
+    fn set_up_reader(&mut self) {
         let slots = some_slots(&mut self.random);
         self.add(Step::Lend(Buffer::State, 32));
         self.add(Step::Lend(Buffer::Table, HEADER_BYTES + SLOT_BYTES * slots));
@@ -472,10 +520,12 @@ impl Maker {
             self.add(Step::Table(plan));
         }
         self.add_call(Call::Switches(1, 1, 1));
-        self.add(Step::Lend(Buffer::Output, 244));
+        if self.random.one_in(2) {
+            self.add_call(Call::DtcpWrite(FIRST_UPDATE.to_vec()));
+        }
     }
 
-    /// One or more steps.
+    /// One or more steps; none where only something is noted.
     fn turn(&mut self, world: &World) {
         match self.random.below(100) {
             0..=9 => self.damaged_table(world),
@@ -485,6 +535,10 @@ impl Maker {
             24..=27 => self.other_joining(world),
             28 => self.other_size(world),
             29..=31 => self.soaked_table(world),
+            32..=36 => self.at_the_ramp(world),
+            37 | 38 => self.note(world),
+            39 | 40 => self.exchange(),
+            41 => self.seconds_of_both(),
             _ => self.ordinary(world),
         }
     }
@@ -513,8 +567,13 @@ impl Maker {
         damaged.poke(Buffer::State, at, &bytes);
         self.add(Step::Bytes(Buffer::State, at, bytes));
         self.some_calls(&damaged);
-        self.add(Step::Length(Buffer::State, world.state.len()));
-        self.add(Step::Bytes(Buffer::State, 0, world.state.clone()));
+        self.put_back(Buffer::State, &world.state);
+    }
+
+    /// The buffer as it was, whatever became of it.
+    fn put_back(&mut self, buffer: Buffer, bytes: &[u8]) {
+        self.add(Step::Length(buffer, bytes.len()));
+        self.add(Step::Bytes(buffer, 0, bytes.to_vec()));
     }
 
     /// A field of the state with a value at an edge of its range, or any byte of it.
@@ -615,14 +674,7 @@ impl Maker {
     fn other_size(&mut self, world: &World) {
         let buffer = self.random.pick(&[Buffer::State, Buffer::Table]);
         let whole = if buffer == Buffer::State { &world.state } else { &world.table };
-        let length = match self.random.below(6) {
-            0 => whole.len() + 1,
-            1 => whole.len().saturating_sub(1),
-            2 => whole.len() + SLOT_BYTES,
-            3 => whole.len().saturating_sub(SLOT_BYTES),
-            4 => self.random.below(HEADER_BYTES + 2),
-            _ => 65_552,
-        };
+        let length = self.other_length(whole.len());
         self.add(Step::Length(buffer, length));
         self.some_calls(world);
         if self.random.one_in(4) {
@@ -632,6 +684,17 @@ impl Maker {
         let kept = length.min(whole.len());
         self.add(Step::Length(buffer, whole.len()));
         self.add(Step::Bytes(buffer, kept, whole[kept..].to_vec()));
+    }
+
+    fn other_length(&mut self, whole: usize) -> usize {
+        match self.random.below(6) {
+            0 => whole + 1,
+            1 => whole.saturating_sub(1),
+            2 => whole + SLOT_BYTES,
+            3 => whole.saturating_sub(SLOT_BYTES),
+            4 => self.random.below(HEADER_BYTES + 2),
+            _ => 65_552,
+        }
     }
 
     /// The table salvaged, mostly damaged or lent with another length; then as before.
@@ -651,8 +714,7 @@ impl Maker {
         self.add_call(Call::Salvage);
         self.add(Step::Lend(Buffer::Salvaged, 0));
         self.add(Step::Lend(Buffer::Findings, 0));
-        self.add(Step::Length(Buffer::Table, whole));
-        self.add(Step::Bytes(Buffer::Table, 0, world.table.clone()));
+        self.put_back(Buffer::Table, &world.table);
     }
 
     /// Damage in a few places, in none, or everywhere; or a slot in between.
@@ -693,6 +755,154 @@ impl Maker {
         self.add(Step::Lend(Buffer::Findings, report));
     }
 
+    /// The ramp asked about both readers: as they are; or with a table damaged or lent with another
+    /// length, or with both so, and then as before.
+    fn at_the_ramp(&mut self, world: &World) {
+        let mut lent = world.clone();
+        if self.random.one_in(4) {
+            self.equal_bases(&mut lent);
+        }
+        for buffer in [Buffer::Table, Buffer::Right] {
+            if self.random.one_in(4) {
+                self.harm(&mut lent, buffer);
+            }
+        }
+        for _ in 0..1 + self.random.below(3) {
+            let call = self.ramp_call(&lent);
+            self.add_call(call);
+        }
+        for (buffer, whole) in [(Buffer::Table, &world.table), (Buffer::Right, &world.right)] {
+            if lent.buffer(buffer) != whole {
+                self.put_back(buffer, whole);
+            }
+        }
+    }
+
+    /// The right log's newest update gets the base of the left one's, or one beside it.
+    fn equal_bases(&mut self, lent: &mut World) {
+        let newest = |table| updates(&PAPER, &Log::open(&PAPER, table).ok()?).pop();
+        if let (Some(left), Some(right)) = (newest(&lent.table), newest(&lent.right)) {
+            let base = left.update.base.wrapping_add(self.random.pick(&[0, 0, 1, u32::MAX]));
+            let (at, bytes) = (right.bytes.start + 16, base.to_le_bytes().to_vec());
+            lent.poke(Buffer::Right, at, &bytes);
+            self.add(Step::Bytes(Buffer::Right, at, bytes));
+        }
+    }
+
+    /// Damages a table of what is lent, empties it, or gives it another length.
+    fn harm(&mut self, lent: &mut World, buffer: Buffer) {
+        let table = lent.buffer(buffer);
+        let (at, bytes) = match (self.random.below(4), table_damage(&mut self.random, table)) {
+            (0, _) | (_, None) => {
+                let length = self.other_length(table.len());
+                table.resize(length, 0);
+                return self.add(Step::Length(buffer, length));
+            }
+            // H 0 and the offset 16: sound, whatever its slots have.
+            (1, _) => (2, vec![0, 0, HEADER_BYTES as u8, 0, 0, 0]),
+            (_, Some(damage)) => damage,
+        };
+        lent.poke(buffer, at, &bytes);
+        self.add(Step::Bytes(buffer, at, bytes));
+    }
+
+    fn ramp_call(&mut self, world: &World) -> Call {
+        if self.random.one_in(3) {
+            return Call::NewestUpdate;
+        }
+        let window = match self.random.below(8) {
+            0 => self.random.pick(&[61, 62, 3_600, u32::MAX]),
+            1 => 0,
+            2 => PAPER.widest_window,
+            _ => self.random.below(PAPER.widest_window as usize) as u32,
+        };
+        let sightings = match self.noted {
+            _ if self.random.one_in(8) => {
+                [&world.table, &world.right].map(|t| self.far_sighting(t))
+            }
+            Some(noted) if self.random.one_in(3) => self.noted_sightings(world, noted),
+            _ => self.likely_sightings(world, window),
+        };
+        Call::OneBeast(sightings, window)
+    }
+
+    /// What was noted earlier, and the clocks now.
+    fn noted_sightings(&self, world: &World, noted: [(u32, u16); 2]) -> Sightings {
+        let [(left, left_next), (right, right_next)] = noted;
+        [
+            Sighting { base: base_of(&world.state), stamp: left, next: left_next },
+            Sighting { base: base_of(&world.right_state), stamp: right, next: right_next },
+        ]
+    }
+
+    /// Sightings whose ages, where both can be carried, are about the window apart.
+    fn likely_sightings(&mut self, world: &World, window: u32) -> Sightings {
+        let left = self.sighting(&world.state, &world.table);
+        let carried = carry(&PAPER, left.stamp, left.next, &world.table).unwrap_or(0);
+        let apart = i64::from(window) + self.random.pick(&[-1, 0, 0, 0, 1, 1, 1, 2, -90_000]);
+        let age = i64::from(left.base) - carried + self.random.pick(&[-1, 1]) * apart;
+        let right = self.sighting(&world.right_state, &world.right);
+        let moved = carry(&PAPER, 0, right.next, &world.right).unwrap_or(0);
+        let stamp = i64::from(right.base) - moved - age;
+        [left, Sighting { stamp: u32::try_from(stamp).unwrap_or(right.stamp), ..right }]
+    }
+
+    /// A clock and a stamp at the ends of 32 bits, and nothing logged since.
+    fn far_sighting(&mut self, table: &[u8]) -> Sighting {
+        let mut end = || self.random.pick(&[0, 1, 30, u32::MAX - 30, u32::MAX]);
+        Sighting { base: end(), stamp: end(), next: next_of(table) }
+    }
+
+    /// A read at one antenna, by its clock and its log; the clock is another number now and then.
+    fn sighting(&mut self, state: &[u8], table: &[u8]) -> Sighting {
+        let base = match self.random.below(6) {
+            0 => self.random.pick(&BASE_EDGES),
+            _ => base_of(state),
+        };
+        let since = self.random.below(200) as u32;
+        let ago = base.saturating_sub(since);
+        let stamp = self.random.pick(&[ago, ago, ago, base.saturating_add(since), 0, u32::MAX]);
+        let next = match self.random.below(3) {
+            0 => self.likely_number(table),
+            _ => self.recent_number(table),
+        };
+        Sighting { base, stamp, next }
+    }
+
+    /// The next number, or one of the newest held: stamps are mostly carried over few records.
+    fn recent_number(&mut self, table: &[u8]) -> u16 {
+        if table.len() < HEADER_BYTES {
+            return 0;
+        }
+        let held = usize::from(u16_at(table, 2));
+        next_of(table).wrapping_sub(self.random.below(held.min(3) + 1) as u16)
+    }
+
+    /// Both readers have read a tag: one of them now, the other some seconds before it.
+    fn note(&mut self, world: &World) {
+        let before = self.random.below(70) as u32;
+        self.noted = Some([
+            (base_of(&world.state).saturating_sub(before), next_of(&world.table)),
+            (base_of(&world.right_state), next_of(&world.right)),
+        ]);
+    }
+
+    fn exchange(&mut self) {
+        self.add(Step::Exchange);
+        if let Some(noted) = &mut self.noted {
+            noted.swap(0, 1);
+        }
+    }
+
+    /// The same seconds pass for both.
+    fn seconds_of_both(&mut self) {
+        let n = self.random.below(100) as u32;
+        for _ in 0..2 {
+            self.add_call(Call::Seconds(n));
+            self.add(Step::Exchange);
+        }
+    }
+
     /// One call, chosen by what the reader is doing.
     fn ordinary(&mut self, world: &World) {
         let switches = world.state.get(16).copied().unwrap_or(0);
@@ -706,7 +916,8 @@ impl Maker {
         }
         let call = match self.random.below(100) {
             0..=24 => Call::DtcpWrite(self.dtcp_write(world)),
-            25..=56 => Call::RacpWrite(self.racp_write(world)),
+            25..=55 => Call::RacpWrite(self.racp_write(world)),
+            56 => self.ramp_call(world),
             57..=62 => Call::Seconds(self.some_seconds(world)),
             63..=67 => Call::Fault,
             68..=70 => self.some_switches(),
@@ -750,7 +961,7 @@ impl Maker {
 
     /// 0 mostly, to stay near; else the edges of what is left.
     fn some_seconds(&mut self, world: &World) -> u32 {
-        let base = base_of(world);
+        let base = base_of(&world.state);
         let left = PAPER.last_base_time.saturating_sub(base);
         let near = self.random.below(90_000) as u32;
         self.random.pick(&[0, 1, near, near, left, left.wrapping_add(1), u32::MAX])
@@ -766,19 +977,23 @@ impl Maker {
         Call::Carry(stamp, self.likely_sequence(world))
     }
 
-    /// A number around those the table holds, or any.
     fn likely_sequence(&mut self, world: &World) -> u16 {
-        if world.table.len() < HEADER_BYTES || self.random.one_in(8) {
+        self.likely_number(&world.table)
+    }
+
+    /// A number around those the table holds, or any.
+    fn likely_number(&mut self, table: &[u8]) -> u16 {
+        if table.len() < HEADER_BYTES || self.random.one_in(8) {
             return self.random.pick(&[0, 1, 65_534, 65_535]);
         }
-        let held = u16_at(&world.table, 2);
+        let held = u16_at(table, 2);
         let back = match self.random.below(4) {
             0 => held,
             1 => held.wrapping_add(1),
             2 => self.random.below(4) as u16,
             _ => self.random.below(usize::from(held) + 2) as u16,
         };
-        u16_at(&world.table, 8).wrapping_sub(back)
+        u16_at(table, 8).wrapping_sub(back)
     }
 
     /// Two such numbers, three times in four the older one first, by age from the one before the
@@ -805,7 +1020,7 @@ impl Maker {
         write.extend(self.proposed_base(world).to_le_bytes());
         write.push(if self.random.one_in(4) { self.random.pick(&ZONE_EDGES) } else { 4 });
         write.push(if self.random.one_in(4) { self.random.pick(&DST_EDGES) } else { 0 });
-        write.push(if self.random.one_in(8) {
+        write.push(if self.random.one_in(5) {
             self.random.pick(&SOURCE_EDGES)
         } else {
             self.random.below(8) as u8
@@ -818,7 +1033,7 @@ impl Maker {
     }
 
     fn proposed_base(&mut self, world: &World) -> u32 {
-        let base = base_of(world);
+        let base = base_of(&world.state);
         let by = self.random.pick(&[0, 1, 60, 86_399, 86_400, 86_401, 100_000]);
         match self.random.below(8) {
             0 => self.random.pick(&BASE_EDGES),
@@ -942,9 +1157,17 @@ fn before_oldest(world: &World) -> u16 {
     u16_at(&world.table, 8).wrapping_sub(held).wrapping_sub(1)
 }
 
-fn base_of(world: &World) -> u32 {
-    if world.state.len() < 4 {
+/// The log's next number.
+fn next_of(table: &[u8]) -> u16 {
+    if table.len() < HEADER_BYTES {
+        return 0;
+    }
+    u16_at(table, 8)
+}
+
+fn base_of(state: &[u8]) -> u32 {
+    if state.len() < 4 {
         return PAPER.first_base_time;
     }
-    u32_at(&world.state, 0)
+    u32_at(state, 0)
 }

@@ -2,6 +2,7 @@
 
 use crate::clock::Switches;
 use crate::numbers::{Numbers, PAPER};
+use crate::ramp::{self, Part, Ramp, Refused, Side, Sightings, Tables};
 use crate::record::{self, Fields};
 use crate::refusal::{self, Refusal};
 use crate::salvage::{self, Salvage};
@@ -9,7 +10,8 @@ use crate::{access, carry, clock, image, joining, keep, notify, update};
 
 /// A reader as a C caller sees it. Answers of at least 0 mean done (bytes written), answers
 /// below 0 are minus the paper's refusal number. A refusal leaves every buffer untouched, but
-/// that a refused join zeroes the joining bytes. Every input has an answer.
+/// that a refused join zeroes the joining bytes, and that the ramp's two calls say whatever their
+/// answer of which side it is. Every input has an answer.
 pub trait Reader {
     /// Refuses 1 (size only), 2 (length of the state).
     fn start(&self, state: &mut [u8], table: &mut [u8]) -> i32;
@@ -46,17 +48,24 @@ pub trait Reader {
     /// The bytes written of the report; the table has as many as the input. Refuses 20, 21, 3; of
     /// a sound table 3 alone.
     fn salvage(&self, input: &[u8], table: &mut [u8], report: &mut [u8]) -> i32;
+    /// 1 or 2 beasts, with side 0. Refuses 18 (side 0); of side 1, the left one, 1, 12, 13; then of
+    /// side 2.
+    fn one_beast(&self, tables: Tables, sightings: Sightings, window: u32, side: &mut u32) -> i32;
+    /// The part has its side, where it begins in that table, and its length. Refuses 1 of side 1,
+    /// 1 of side 2, 19 (side 0), with a part of length 0 at 0.
+    fn newest_update(&self, tables: Tables, part: &mut Part) -> i32;
 }
 
 /// The reference: the paper's rules over the paper's numbers.
 pub struct Reference {
     pub numbers: Numbers,
     pub salvage: Salvage,
+    pub ramp: Ramp,
 }
 
 impl Reference {
     pub fn new() -> Reference {
-        Reference { numbers: PAPER, salvage: salvage::PAPER }
+        Reference { numbers: PAPER, salvage: salvage::PAPER, ramp: ramp::PAPER }
     }
 }
 
@@ -152,5 +161,23 @@ impl Reader for Reference {
 
     fn salvage(&self, input: &[u8], table: &mut [u8], report: &mut [u8]) -> i32 {
         answer(self.salvage.salvage(&self.numbers, input, table, report))
+    }
+
+    fn one_beast(&self, tables: Tables, sightings: Sightings, window: u32, side: &mut u32) -> i32 {
+        let (of, answer) = match self.ramp.one_beast(&self.numbers, tables, sightings, window) {
+            Ok(verdict) => (Side::Neither, verdict as i32),
+            Err(Refused { side, refusal }) => (side, refusal.answer()),
+        };
+        *side = of as u32;
+        answer
+    }
+
+    fn newest_update(&self, tables: Tables, part: &mut Part) -> i32 {
+        let (found, answer) = match self.ramp.newest_update(&self.numbers, tables) {
+            Ok(found) => (found, 0),
+            Err(refused) => (refused.part(), refused.refusal.answer()),
+        };
+        *part = found;
+        answer
     }
 }

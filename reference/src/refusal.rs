@@ -15,6 +15,9 @@ pub enum Refusal {
     NotARecord = 11,
     LaterRecordNotHeld = 12,
     FaultAmongThem = 13,
+    // Of change request E5, the ramp.
+    WindowTooWide = 18,
+    NoUpdateHeld = 19,
     // Of change request E9, salvage.
     SizeOfNoTable = 20,
     NoRecord = 21,

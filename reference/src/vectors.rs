@@ -9,10 +9,12 @@
 //! Besides the parts it names, every vector is held to what goes for all calls: a refusal
 //! leaves state, table and output as they were (10 empties the joining state instead), and
 //! output past the bytes written keeps its old bytes. So do salvage's two rooms; what it salvages
-//! is the table, and that stays as it is.
+//! is the table, and that stays as it is. The ramp's calls write a number or three, and nothing
+//! else; `setup exchange` makes the reader that was set up so far the right one.
 
 use crate::listing::{is_sound, listing};
 use crate::octets::{put_u16, put_u32, u16_at, u32_at};
+use crate::ramp::Sighting;
 use crate::reader::Reader;
 use crate::table::{HEADER_BYTES, SLOT_BYTES};
 use crate::world::{Buffer, Call, World, FILL};
@@ -142,6 +144,7 @@ fn setup(
             world.salvaged = vec![FILL; number(&words[0])?];
             world.findings = vec![FILL; number(&words[1])?];
         }
+        "exchange" => world.exchange(),
         "bytes" => {
             let (buffer, at) = (named_buffer(&words[0])?, number(&words[1])?);
             world.poke(buffer, at, &hex(&words[2..])?);
@@ -190,15 +193,26 @@ fn named_call(line: &Line) -> Result<Call, String> {
         "parameters" => Call::Parameters,
         "att_error" => Call::AttError(number(&words[0])?),
         "salvage" => Call::Salvage,
+        "one_beast" => {
+            Call::OneBeast([sighting(&words[..3])?, sighting(&words[3..6])?], number(&words[6])?)
+        }
+        "newest_update" => Call::NewestUpdate,
         other => return Err(format!("no call named {other}")),
     })
+}
+
+/// Base, stamp and next number.
+fn sighting(words: &[String]) -> Result<Sighting, String> {
+    Ok(Sighting { base: number(&words[0])?, stamp: number(&words[1])?, next: number(&words[2])? })
 }
 
 /// What goes for every call, named in the vector or not.
 fn holds_for_all_calls(call: &Line, outcome: &Outcome) -> Result<(), String> {
     let Outcome { before, after, answer, .. } = outcome;
-    if call.verb == "salvage" && *answer >= 0 {
-        return holds_for_salvage(outcome);
+    match call.verb.as_str() {
+        "salvage" if *answer >= 0 => return holds_for_salvage(outcome),
+        "one_beast" | "newest_update" => return holds_for_ramp(&call.verb, outcome),
+        _ => {}
     }
     if *answer >= 0 {
         let written = match call.verb.as_str() {
@@ -232,6 +246,17 @@ fn holds_for_salvage(outcome: &Outcome) -> Result<(), String> {
         room.get_mut(..written).ok_or("a room has another length")?.copy_from_slice(bytes);
     }
     same("buffers besides what salvage writes", after, &expected)
+}
+
+/// Whatever it answers, the one writes the side and the other the part.
+fn holds_for_ramp(verb: &str, outcome: &Outcome) -> Result<(), String> {
+    let Outcome { before, after, .. } = outcome;
+    let mut expected = before.clone();
+    match verb {
+        "one_beast" => expected.side = after.side,
+        _ => expected.part = after.part,
+    }
+    same("what the ramp leaves as it was", after, &expected)
 }
 
 /// One expected part of the outcome.
@@ -269,18 +294,13 @@ fn expected(reader: &dyn Reader, line: &Line, outcome: &Outcome) -> Result<(), S
             same("bytes", &buffer.get(at..at + bytes.len()), &Some(&bytes[..]))
         }
         "sound" => same("sound", &is_sound(reader, &after.table), &true),
-        "joining" => {
-            let parts: Vec<u8> = words.iter().map(|word| number(word)).collect::<Result<_, _>>()?;
-            same("joining", &after.joining[..3], &parts[..])
-        }
+        "joining" => same("joining", &after.joining[..3], &numbers(words)?[..]),
         "more" => same("more to come", answer, &0),
         "complete" => same("a whole record", answer, &i32::from(after.joining[2])),
         "carried" => same("carried", &after.carried, &number(word(0))?),
-        "fields" => {
-            let fields: Vec<u32> =
-                words.iter().map(|word| number(word)).collect::<Result<_, _>>()?;
-            same("fields", &after.fields[..], &fields[..])
-        }
+        "fields" => same("fields", &after.fields[..], &numbers(words)?[..]),
+        "side" => same("side", &after.side, &number(word(0))?),
+        "part" => same("part", &after.part[..], &numbers(words)?[..]),
         other => Err(format!("no expectation named {other}")),
     }
 }
@@ -379,12 +399,17 @@ fn named_buffer(word: &str) -> Result<Buffer, String> {
         "out" => Ok(Buffer::Output),
         "salvaged" => Ok(Buffer::Salvaged),
         "findings" => Ok(Buffer::Findings),
+        "right" => Ok(Buffer::Right),
         other => Err(format!("no buffer named {other}")),
     }
 }
 
 fn number<T: std::str::FromStr>(word: &str) -> Result<T, String> {
     word.parse().map_err(|_| format!("not a number here: {word:?}"))
+}
+
+fn numbers<T: std::str::FromStr>(words: &[String]) -> Result<Vec<T>, String> {
+    words.iter().map(|word| number(word)).collect()
 }
 
 /// Hexadecimal bytes; `01*45` repeats one, `none` is no byte at all.

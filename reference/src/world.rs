@@ -2,11 +2,15 @@
 
 use crate::image::STATE_BYTES;
 use crate::joining::JOINING_BYTES;
+use crate::ramp::{Part, Sightings};
 use crate::reader::Reader;
 use crate::record::Fields;
+use std::mem::swap;
 
 /// What fresh buffers are filled with: a byte no call writes by chance everywhere.
 pub const FILL: u8 = 0xAA;
+/// What fresh numbers are.
+const FILL_NUMBER: u32 = u32::from_le_bytes([FILL; 4]);
 
 #[derive(Clone, Debug, PartialEq, Eq)]
 pub struct World {
@@ -21,6 +25,12 @@ pub struct World {
     /// Salvage's room for a table, and its room for what it reports.
     pub salvaged: Vec<u8>,
     pub findings: Vec<u8>,
+    /// The ramp's other reader, the right one: all calls but the ramp's are on the left one. The two
+    /// change places by `exchange`.
+    pub right_state: Vec<u8>,
+    pub right: Vec<u8>,
+    pub side: u32,
+    pub part: Part,
 }
 
 #[derive(Clone, Copy, Debug, PartialEq, Eq)]
@@ -31,6 +41,8 @@ pub enum Buffer {
     Output,
     Salvaged,
     Findings,
+    /// The right table.
+    Right,
 }
 
 /// A public call with its numbers and the bytes it brings; the lent buffers are the world's.
@@ -58,6 +70,9 @@ pub enum Call {
     AttError(u32),
     /// Salvages the table.
     Salvage,
+    /// What is known of both reads, the left one first, and the window.
+    OneBeast(Sightings, u32),
+    NewestUpdate,
 }
 
 impl World {
@@ -72,7 +87,17 @@ impl World {
             segment: Vec::new(),
             salvaged: Vec::new(),
             findings: Vec::new(),
+            right_state: vec![FILL; STATE_BYTES],
+            right: Vec::new(),
+            side: FILL_NUMBER,
+            part: [FILL_NUMBER; 3],
         }
+    }
+
+    /// The ramp's two readers change places.
+    pub fn exchange(&mut self) {
+        swap(&mut self.state, &mut self.right_state);
+        swap(&mut self.table, &mut self.right);
     }
 
     pub fn buffer(&mut self, buffer: Buffer) -> &mut Vec<u8> {
@@ -83,6 +108,7 @@ impl World {
             Buffer::Output => &mut self.out,
             Buffer::Salvaged => &mut self.salvaged,
             Buffer::Findings => &mut self.findings,
+            Buffer::Right => &mut self.right,
         }
     }
 
@@ -118,6 +144,10 @@ impl World {
             Call::Parameters => reader.parameters(out),
             Call::AttError(number) => reader.att_error(*number),
             Call::Salvage => reader.salvage(table, &mut self.salvaged, &mut self.findings),
+            Call::OneBeast(sightings, window) => {
+                reader.one_beast([table, &self.right], *sightings, *window, &mut self.side)
+            }
+            Call::NewestUpdate => reader.newest_update([table, &self.right], &mut self.part),
         }
     }
 

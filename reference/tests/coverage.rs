@@ -1,18 +1,24 @@
 //! The made sequences reach what they are made for.
 
 use reference::listing::is_sound;
-use reference::octets::u16_at;
+use reference::octets::{u16_at, u32_at};
+use reference::once::held;
+use reference::ramp::{Sighting, Sightings};
 use reference::random::{watch, Step};
-use reference::reader::Reference;
+use reference::reader::{Reader, Reference};
 use reference::world::{Call, World};
 use std::collections::{BTreeMap, BTreeSet};
 
 const CALLS: usize = 200_000;
+/// How often the ramp must come to each of its answers, of each side.
+const OFTEN: usize = 200;
 
 #[derive(Default)]
 struct Seen {
     /// How often each refusal number was answered, by call; 0 for done.
     numbers: BTreeMap<&'static str, BTreeMap<i32, usize>>,
+    /// How often the ramp's calls came to each answer, with its side.
+    ramp: BTreeMap<(&'static str, i32, u32), usize>,
     /// Write lengths and first bytes, by point.
     lengths: BTreeMap<&'static str, BTreeSet<usize>>,
     opcodes: BTreeMap<&'static str, BTreeSet<u8>>,
@@ -49,6 +55,8 @@ fn name(call: &Call) -> &'static str {
         Call::Parameters => "parameters",
         Call::AttError(_) => "att_error",
         Call::Salvage => "salvage",
+        Call::OneBeast(..) => "one_beast",
+        Call::NewestUpdate => "newest_update",
     }
 }
 
@@ -69,6 +77,27 @@ fn range_event(minimum: usize, maximum: usize, held: usize) -> &'static str {
     }
 }
 
+/// A stamp's age; nothing if it can't be carried.
+fn age(sighting: &Sighting, table: &[u8]) -> Option<i64> {
+    let mut carried = 0;
+    let answer = Reference::new().carry(sighting.stamp, sighting.next, table, &mut carried);
+    (answer == 0).then_some(i64::from(sighting.base) - carried)
+}
+
+/// A sound log's records, oldest first: whether each is an update, and its new base.
+fn bases(table: &[u8]) -> Vec<(bool, u32)> {
+    let base = |record: Vec<u8>| match record[2] {
+        1 => (true, u32_at(&record, 16)),
+        _ => (false, u32_at(&record, 12)),
+    };
+    held(table).into_iter().map(base).collect()
+}
+
+/// The newest update's base.
+fn newest_base(bases: &[(bool, u32)]) -> Option<u32> {
+    bases.iter().rev().find(|(is_update, _)| *is_update).map(|(_, base)| *base)
+}
+
 impl Seen {
     fn call(&mut self, call: &Call, answer: i32, before: &World, after: &World) {
         *self.numbers.entry(name(call)).or_default().entry(-answer.min(0)).or_default() += 1;
@@ -81,6 +110,8 @@ impl Seen {
         match call {
             Call::DtcpWrite(write) => self.write("dtcp_write", write),
             Call::RacpWrite(write) => self.write("racp_write", write),
+            Call::OneBeast(..) => self.at_the_ramp(call, answer, after.side),
+            Call::NewestUpdate => self.at_the_ramp(call, answer, after.part[0]),
             _ => {}
         }
         if answer < 0 {
@@ -145,7 +176,64 @@ impl Seen {
                 }
             }
             Call::Salvage => self.salvaged(answer, before, after),
+            Call::OneBeast(sightings, window) => self.told(sightings, *window, before),
+            Call::NewestUpdate => self.handed_back(before, after),
             _ => {}
+        }
+    }
+
+    fn at_the_ramp(&mut self, call: &Call, answer: i32, side: u32) {
+        *self.ramp.entry((name(call), answer, side)).or_default() += 1;
+    }
+
+    /// One beast or two, by ages at the window or beside it.
+    fn told(&mut self, [left, right]: &Sightings, window: u32, before: &World) {
+        let ages = age(left, &before.table).zip(age(right, &before.right));
+        let (of_left, of_right) = ages.expect("both are carried");
+        let (apart, window) = (of_left - of_right, i64::from(window));
+        let event = match apart {
+            0 => "equal ages",
+            _ if apart == window => "left read just within the window",
+            _ if apart == window + 1 => "left read just before the window",
+            _ if apart == -window => "right read just within the window",
+            _ if apart == -window - 1 => "right read just before the window",
+            _ => "ages somewhere else",
+        };
+        self.events.insert(event);
+        if of_left.min(of_right) < 0 {
+            self.events.insert("an age below 0");
+        }
+        if of_left.max(of_right) > u32::MAX.into() {
+            self.events.insert("an age past 32 bits");
+        }
+        let moved = |sighting: &Sighting, table| sighting.next != u16_at(table, 8);
+        if moved(left, &before.table) && moved(right, &before.right) {
+            self.events.insert("both stamps carried over records");
+        }
+    }
+
+    /// An update, and what else the logs have.
+    fn handed_back(&mut self, before: &World, after: &World) {
+        let [left, right] = [&before.table, &before.right].map(|table| bases(table));
+        match [&left, &right].map(|bases| newest_base(bases)) {
+            [Some(left), Some(right)] if left == right => self.events.insert("equal bases"),
+            [Some(_), Some(_)] => self.events.insert("other bases"),
+            _ => self.events.insert("an update at one side only"),
+        };
+        let sides = [(&left, &before.table), (&right, &before.right)];
+        let (bases, table) = sides[after.part[0] as usize - 1];
+        if !bases.last().is_some_and(|(is_update, _)| *is_update) {
+            self.events.insert("a fault newer than the update");
+        }
+        let largest = bases.iter().filter(|(is_update, _)| *is_update).map(|(_, base)| *base).max();
+        if largest > newest_base(bases) {
+            self.events.insert("an older update with a larger base");
+        }
+        if after.part[1] < u32_at(table, 4) {
+            self.events.insert("the update before the oldest's slot");
+        }
+        if table.len() == 65_488 {
+            self.events.insert("an update of the largest table");
         }
     }
 
@@ -231,7 +319,7 @@ fn sequences_reach_everything() {
         }
     });
 
-    let rows: [(&str, &[i32]); 17] = [
+    let rows: [(&str, &[i32]); 19] = [
         ("start", &[0, 1, 2]),
         ("seconds", &[0, 2, 7]),
         ("switches", &[0, 2]),
@@ -249,11 +337,22 @@ fn sequences_reach_everything() {
         ("parameters", &[0, 3]),
         ("att_error", &[0]),
         ("salvage", &[0, 3, 20, 21]),
+        ("one_beast", &[0, 1, 12, 13, 18]),
+        ("newest_update", &[0, 1, 19]),
     ];
     for (call, numbers) in rows {
         println!("{call}: {:?}", seen.numbers[call]);
         assert!(seen.numbers[call].keys().eq(numbers), "{call}");
     }
+    println!("ramp: {:?}", seen.ramp);
+    let verdicts =
+        [(1, 0), (2, 0), (-18, 0), (-1, 1), (-12, 1), (-13, 1), (-1, 2), (-12, 2), (-13, 2)];
+    let parts = [(0, 1), (0, 2), (-1, 1), (-1, 2), (-19, 0)];
+    let verdicts = verdicts.map(|(answer, side)| ("one_beast", answer, side));
+    let parts = parts.map(|(answer, side)| ("newest_update", answer, side));
+    let answers: BTreeSet<_> = verdicts.into_iter().chain(parts).collect();
+    assert!(seen.ramp.keys().eq(&answers));
+    assert!(seen.ramp.values().all(|count| *count >= OFTEN));
     for point in ["dtcp_write", "racp_write"] {
         assert_eq!(seen.lengths[point], BTreeSet::from_iter(0..=21), "{point}");
         assert_eq!(seen.opcodes[point].len(), 256, "{point}");
@@ -267,9 +366,8 @@ fn sequences_reach_everything() {
     assert_eq!(seen.segment_bits, BTreeSet::from([0, 1, 2, 3]));
     assert_eq!(seen.counters, BTreeSet::from_iter(0..64));
     assert_eq!(seen.closings, BTreeSet::from([6, 8]));
-    // 4, 6, 39 and 41: a table of five or forty slots that was lent with one less or one more, and
-    // started anew.
-    assert_eq!(seen.slots, BTreeSet::from([1, 2, 3, 4, 5, 6, 39, 40, 41, 1_023]));
+    // 4 and 6: a table of five slots that was lent with one less or one more, and started anew.
+    assert_eq!(seen.slots, BTreeSet::from([1, 2, 3, 4, 5, 6, 40, 1_023]));
     assert_eq!(
         seen.events,
         BTreeSet::from([
@@ -307,6 +405,22 @@ fn sequences_reach_everything() {
             "largest table salvaged",
             "others salvaged",
             "salvaged with room left over",
+            "equal ages",
+            "left read just within the window",
+            "left read just before the window",
+            "right read just within the window",
+            "right read just before the window",
+            "ages somewhere else",
+            "an age below 0",
+            "an age past 32 bits",
+            "both stamps carried over records",
+            "equal bases",
+            "other bases",
+            "an update at one side only",
+            "a fault newer than the update",
+            "an older update with a larger base",
+            "the update before the oldest's slot",
+            "an update of the largest table",
         ])
     );
 }

@@ -5,6 +5,7 @@ use reference::history::play;
 use reference::mutants::{spoiled, MUTANTS};
 use reference::octets::{u16_at, u32_at};
 use reference::once::{Complaint, Course, Ending, Handed};
+use reference::ramp::{Part, Sightings, Tables};
 use reference::reader::{Reader, Reference};
 use std::collections::{BTreeMap, BTreeSet};
 
@@ -300,6 +301,12 @@ impl Reader for WrongReader {
     }
     fn salvage(&self, input: &[u8], table: &mut [u8], report: &mut [u8]) -> i32 {
         self.right.salvage(input, table, report)
+    }
+    fn one_beast(&self, tables: Tables, sightings: Sightings, window: u32, side: &mut u32) -> i32 {
+        self.right.one_beast(tables, sightings, window, side)
+    }
+    fn newest_update(&self, tables: Tables, part: &mut Part) -> i32 {
+        self.right.newest_update(tables, part)
     }
 }
 

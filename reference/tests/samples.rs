@@ -2,7 +2,7 @@
 
 use reference::calendar::calendar;
 use reference::dates::dates;
-use reference::heard::{asked, carried, joined};
+use reference::heard::{asked, beasts, carried, joined, newest, Named};
 use reference::listing::{is_sound, listing};
 use reference::program::Run;
 use reference::reader::{Reader, Reference};
@@ -103,6 +103,26 @@ fn carried_stamps_are_the_references() {
 #[test]
 fn requests_by_number_are_the_references() {
     are_the_references("asked", asked);
+}
+
+/// The files of this kind, whose lines name tables, each line made anew.
+fn lines_are_the_references(kind: &str, made: fn(&dyn Reader, &Named, &str) -> String) {
+    for path in files(|other| other == kind) {
+        let stored = text(&path);
+        let named =
+            |name: &str| fs::read(path.with_file_name(name).with_extension("table")).unwrap();
+        assert_eq!(made(&Reference::new(), &named, &stored), stored, "{}", path.display());
+    }
+}
+
+#[test]
+fn beasts_are_the_references() {
+    lines_are_the_references("beasts", beasts);
+}
+
+#[test]
+fn newest_updates_are_the_references() {
+    lines_are_the_references("newest", newest);
 }
 
 /// An unsound table has a file with what is said of it, and one with what comes back, if anything

@@ -1,6 +1,7 @@
 //! The servers and tablets the paper shuts out: both the vectors and the comparison notice them.
 
 use reference::octets::{put_u16, put_u32, u16_at, u32_at};
+use reference::ramp::{Part, Sightings, Tables};
 use reference::random::compare;
 use reference::reader::{Reader, Reference};
 use reference::vectors::play_all;
@@ -26,9 +27,11 @@ enum Wrong {
     KeepsFrom0Only,
     KeepsAnyNumber,
     SalvagesBeforeItRefuses,
+    NamesASideOnlyWhereItRefuses,
+    LeavesThePartWhereItRefuses,
 }
 
-const ALL: [Wrong; 17] = [
+const ALL: [Wrong; 19] = [
     Wrong::RejectsEveryProposal,
     Wrong::SaysSuccessToAll,
     Wrong::NeverLogs,
@@ -46,6 +49,8 @@ const ALL: [Wrong; 17] = [
     Wrong::KeepsFrom0Only,
     Wrong::KeepsAnyNumber,
     Wrong::SalvagesBeforeItRefuses,
+    Wrong::NamesASideOnlyWhereItRefuses,
+    Wrong::LeavesThePartWhereItRefuses,
 ];
 
 /// The reference, with one call gone wrong.
@@ -205,6 +210,24 @@ impl Reader for WrongReader {
         // The table is there before the report turns out not to fit.
         if self.wrong == Wrong::SalvagesBeforeItRefuses && answer == -3 {
             self.right.salvage(input, table, &mut [0; 16 * 1_027]);
+        }
+        answer
+    }
+
+    fn one_beast(&self, tables: Tables, sightings: Sightings, window: u32, side: &mut u32) -> i32 {
+        let old_side = *side;
+        let answer = self.right.one_beast(tables, sightings, window, side);
+        if self.wrong == Wrong::NamesASideOnlyWhereItRefuses && answer > 0 {
+            *side = old_side;
+        }
+        answer
+    }
+
+    fn newest_update(&self, tables: Tables, part: &mut Part) -> i32 {
+        let old_part = *part;
+        let answer = self.right.newest_update(tables, part);
+        if self.wrong == Wrong::LeavesThePartWhereItRefuses && answer < 0 {
+            *part = old_part;
         }
         answer
     }

@@ -1,8 +1,9 @@
 /*
- * Makes one kind of call a number of times over a full table of so many slots: cost KIND SLOTS TIMES. For
- * counting instructions: what TIMES more cost is the difference of two counts (tools/cost, which names the
- * kinds). Each call finds the state that the first one found. The tablet's calls take no table, and SLOTS is
- * nothing to them; in upper case such a kind is the same loop with a function in it that does nothing.
+ * Makes one kind of call a number of times over a full table of so many slots, a ramp's calls over two of them:
+ * cost KIND SLOTS TIMES. For counting instructions: what TIMES more cost is the difference of two counts
+ * (tools/cost, which names the kinds). Each call finds the state that the first one found. The calls that join and
+ * read take no table, and SLOTS is nothing to them; in upper case such a kind is the same loop with a function in it
+ * that does nothing.
  */
 #include "check.h"
 #include "whiskraven.h"
@@ -33,6 +34,19 @@ static int32_t carry(uint16_t q)
 {
     int64_t carried;
     return dts_carry(800000000, q, table, length, &carried);
+}
+
+/* Each stamp is carried over all records of its table. */
+static int32_t one_beast(void)
+{
+    uint32_t side;
+    return dts_one_beast(table, length, 800000000, 800000000, 0, back, length, 800000000, 800000000, 0, 0, &side);
+}
+
+static int32_t newest_update(void)
+{
+    uint32_t part[DTS_PART_NUMBERS];
+    return dts_newest_update(table, length, back, length, part);
 }
 
 /* A full table, numbers 0 to slots - 1: the record of the first update, or of a fault, again and again. */
@@ -67,7 +81,10 @@ static void ask(uint8_t opcode, uint8_t operator, unsigned minimum, unsigned max
     asked = operator == RANGE ? 7 : operator == AT_LEAST ? 5 : 2;
 }
 
-/* The first call's state: for o and t a report runs already; for g the table's last byte is damaged. */
+/*
+ * The first call's state: for o and t a report runs already; for g the table's last byte is damaged; a ramp has the
+ * same log at the right as at the left.
+ */
 static void prepare(char kind, unsigned newest)
 {
     switch (kind) {
@@ -79,6 +96,7 @@ static void prepare(char kind, unsigned newest)
     case 't': ask(REPORT, ALL, 0, 0); break;
     default: ask(REPORT, LAST, 0, 0);
     }
+    memcpy(back, table, length);
     if (kind == 'g')
         table[length - 1] = 1;
     if (kind == 'o' || kind == 't')
@@ -92,6 +110,9 @@ static int32_t once(char kind, uint16_t next)
     case 's': case 'f': return carry(next);
     case 'c': return carry(0);
     case 'g': return dts_salvage(table, length, back, length, report, sizeof report);
+    case 'e': return one_beast() - DTS_ONE_BEAST;
+    case 'h': return newest_update();
+    case 'i': return newest_update() + DTS_REFUSED_NO_UPDATE;
     case 'w': return update() - 3;
     case 'd': return dts_device_time(state, sizeof state, table, length, out, sizeof out) - DTS_DEVICE_TIME_BYTES;
     case 'n': case 'a': case 'b': return access_records() - 4;
@@ -103,7 +124,7 @@ static int32_t once(char kind, uint16_t next)
 
 static void with_table(char kind, unsigned slots, unsigned long times)
 {
-    fill(slots, kind == 'f');
+    fill(slots, kind == 'f' || kind == 'i');
     prepare(kind, slots - 1);
     for (unsigned long k = 0; k < times; k++) {
         expect("call", once(kind, (uint16_t)slots), 0);

@@ -2,9 +2,9 @@
  * Plays calls that come on standard input: the comparison in reference/ drives the archive through it.
  *
  * A request is the function's number (its place in `functions`), then its arguments in C's order: a number is
- * 4 bytes, a buffer 4 bytes of length and its bytes, `fields` and `carried` too. The reply is the answer in
- * 4 bytes, then for each buffer of the call, const or not, a byte: 0, it holds what it held; or 1, and its
- * bytes. All little endian. The program ends with its input.
+ * 4 bytes, a buffer 4 bytes of length and its bytes, `fields`, `carried`, `side` and `part` too. The reply is
+ * the answer in 4 bytes, then for each buffer of the call, const or not, a byte: 0, it holds what it held; or 1,
+ * and its bytes. All little endian. The program ends with its input.
  *
  * Each buffer is lent so that its last byte is followed by memory that may not be touched: a call that
  * reads or writes past a buffer's end stops the program.
@@ -19,7 +19,7 @@
 enum {
     MOST_BYTES = 128 * 1024, /* of a buffer; more than the largest table, since longer ones are lent too */
     GUARD_BYTES = 64 * 1024, /* no page is larger, and each is a part of it */
-    MOST_ARGUMENTS = 4
+    MOST_ARGUMENTS = 10
 };
 
 struct argument {
@@ -33,6 +33,7 @@ struct argument {
 /* For each function its arguments: n a number, b a buffer. */
 static const char *const functions[] = {
     "bb", "bn", "bnnn", "b", "bbb", "bbbb", "bbbb", "bbnb", "bb", "bb", "bb", "nnbb", "bbb", "b", "b", "n", "bbb",
+    "bnnnbnnnnb", "bbb",
 };
 
 static struct argument arguments[MOST_ARGUMENTS];
@@ -96,7 +97,7 @@ static void put_buffer(const struct argument *argument)
 #define BUFFER(k) arguments[k].bytes, arguments[k].length
 #define NUMBER(k) arguments[k].number
 
-/* `fields` and `carried` end at a multiple of their alignment, and so begin at one. */
+/* `fields`, `carried`, `side` and `part` end at a multiple of their alignment, and so begin at one. */
 static int32_t call(unsigned function)
 {
     switch (function) {
@@ -116,7 +117,10 @@ static int32_t call(unsigned function)
     case 13: return dts_feature(BUFFER(0));
     case 14: return dts_parameters(BUFFER(0));
     case 15: return dts_att_error(NUMBER(0));
-    default: return dts_salvage(BUFFER(0), BUFFER(1), BUFFER(2));
+    case 16: return dts_salvage(BUFFER(0), BUFFER(1), BUFFER(2));
+    case 17: return dts_one_beast(BUFFER(0), NUMBER(1), NUMBER(2), (uint16_t)NUMBER(3), BUFFER(4), NUMBER(5), NUMBER(6),
+                                  (uint16_t)NUMBER(7), NUMBER(8), (uint32_t *)(void *)arguments[9].bytes);
+    default: return dts_newest_update(BUFFER(0), BUFFER(1), (uint32_t *)(void *)arguments[2].bytes);
     }
 }
 

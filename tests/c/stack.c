@@ -4,13 +4,15 @@
  * before the call, on x86-64 with the return address. Each call is made with two paints, from the same memory, so
  * that no byte is missed that was written with the paint. Room at the bottom of a frame that is never written is not
  * seen: the compiler's own report has it (tools/cost). Calls go the long way: a full table of 1,023 slots, a running
- * report, a record that is joined, read, kept, carried, a table that is salvaged. One line each; of joining and reading
- * one for each kind of call too, and last what a task needs that does both. None may use more than the header says.
+ * report, a record that is joined, read, kept, carried, a table that is salvaged, a ramp with two such tables. One line
+ * each; of joining and reading one for each kind of call too, and last what a task needs that does both. None may use
+ * more than the header says.
  */
 #include "check.h"
 #include "whiskraven.h"
 
-enum { ARGUMENTS = 8, BELOW = 1 << 16, SLOTS = DTS_MOST_SLOTS };
+/* ON_STACK: of the arguments at most so many are the caller's, at its stack pointer and above, in 8 bytes each. */
+enum { ARGUMENTS = 12, ON_STACK = 6, BELOW = 1 << 16, SLOTS = DTS_MOST_SLOTS };
 /* What the header allows any call, and joining and reading: a quarter of what their task has on the antenna board. */
 enum { ANY_CALL = 640, JOINING_TASK = 128 };
 /* What a full segment at the smallest payload has of a Time_Update, and what is left for the second. */
@@ -21,14 +23,14 @@ enum { WET = SLOTS / 2, OLDEST = 2, ENTRIES = 2 + WET - OLDEST + 1 };
 typedef void (*entry_point)(void);
 
 /*
- * Calls entry with eight arguments and with the stack pointer at top, and comes back to its own stack. What the
+ * Calls entry with twelve arguments and with the stack pointer at top, and comes back to its own stack. What the
  * entry point does not take it does not look at. The register that holds the caller's own stack pointer meanwhile is
  * one that every function leaves as it was.
  */
 int32_t call_on(uint8_t *top, entry_point entry, const uintptr_t arguments[ARGUMENTS]);
 
 #if defined __x86_64__
-/* The seventh and the eighth argument are the caller's, at its stack pointer and above. */
+/* From the seventh argument on they are on the stack. */
 __asm__(".text\n"
         ".globl call_on\n"
         "call_on:\n"
@@ -41,6 +43,14 @@ __asm__(".text\n"
         "    movq %r11, (%rsp)\n"
         "    movq 56(%r10), %r11\n"
         "    movq %r11, 8(%rsp)\n"
+        "    movq 64(%r10), %r11\n"
+        "    movq %r11, 16(%rsp)\n"
+        "    movq 72(%r10), %r11\n"
+        "    movq %r11, 24(%rsp)\n"
+        "    movq 80(%r10), %r11\n"
+        "    movq %r11, 32(%rsp)\n"
+        "    movq 88(%r10), %r11\n"
+        "    movq %r11, 40(%rsp)\n"
         "    movq (%r10), %rdi\n"
         "    movq 8(%r10), %rsi\n"
         "    movq 16(%r10), %rdx\n"
@@ -52,6 +62,7 @@ __asm__(".text\n"
         "    popq %rbp\n"
         "    retq\n");
 #elif defined __aarch64__
+/* From the ninth argument on they are on the stack. */
 __asm__(".text\n"
         ".globl call_on\n"
         "call_on:\n"
@@ -60,6 +71,10 @@ __asm__(".text\n"
         "    mov sp, x0\n"
         "    mov x9, x1\n"
         "    mov x10, x2\n"
+        "    ldp x11, x12, [x10, #64]\n"
+        "    stp x11, x12, [sp]\n"
+        "    ldp x11, x12, [x10, #80]\n"
+        "    stp x11, x12, [sp, #16]\n"
         "    ldp x0, x1, [x10]\n"
         "    ldp x2, x3, [x10, #16]\n"
         "    ldp x4, x5, [x10, #32]\n"
@@ -72,8 +87,8 @@ __asm__(".text\n"
 #error "no way to call an entry point on a stack of its own is known for this processor"
 #endif
 
-/* The stack to be painted, and above it the room for two arguments. */
-static uint8_t stack[BELOW + 16] __attribute__((aligned(16)));
+/* The stack to be painted, and above it the room for arguments. */
+static uint8_t stack[BELOW + 8 * ON_STACK] __attribute__((aligned(16)));
 
 /* All that the calls write, and what it was before a call. */
 static struct {
@@ -83,6 +98,7 @@ static struct {
     uint32_t fields[DTS_FIELDS];
     int64_t carried;
     uint8_t salvaged[DTS_TABLE_BYTES(SLOTS)], report[DTS_REPORT_ENTRY_BYTES * ENTRIES];
+    uint32_t side, part[DTS_PART_NUMBERS];
 } lent, before;
 /* Two segments of a Time_Update; records. */
 static uint8_t first[DTS_SMALLEST_PAYLOAD], last[1 + REST];
@@ -135,6 +151,7 @@ static long measure(const struct call *call)
 #define BYTES(buffer) (uintptr_t)(buffer), sizeof(buffer)
 #define STATE BYTES(lent.state)
 #define TABLE BYTES(lent.table)
+#define COPY BYTES(lent.copy)
 #define OUT BYTES(lent.out)
 #define JOINING BYTES(lent.joining)
 #define JOINED(length) (uintptr_t)joined, length
@@ -196,6 +213,15 @@ static void copy_log(void)
     memcpy(joined, lent.copy + 8, 2);
 }
 
+/* At the left the log, at the right its copy with a record more: each stamp is carried over all that its table has. */
+static void measure_ramp(void)
+{
+    const uint32_t time = 800000000;
+    MEASURE("dts_one_beast", DTS_ONE_BEAST, dts_one_beast, TABLE, time, time, 1, COPY, time, time, 2, DTS_WIDEST_WINDOW,
+            (uintptr_t)&lent.side);
+    MEASURE("dts_newest_update", 0, dts_newest_update, TABLE, COPY, (uintptr_t)lent.part);
+}
+
 /* The newer records are the longer run; the copy's oldest stands in slot 2, after one update and one record kept. */
 static void soak(void)
 {
@@ -216,9 +242,10 @@ int main(void)
     long join = measure_join();
     long read = measure_read();
     copy_log();
-    MEASURE("dts_keep", 0, dts_keep, BYTES(lent.copy), JOINED(DTS_TIME_UPDATE_BYTES));
+    MEASURE("dts_keep", 0, dts_keep, COPY, JOINED(DTS_TIME_UPDATE_BYTES));
+    measure_ramp();
     soak();
-    MEASURE("dts_salvage", DTS_REPORT_ENTRY_BYTES * ENTRIES, dts_salvage, BYTES(lent.copy), BYTES(lent.salvaged),
+    MEASURE("dts_salvage", DTS_REPORT_ENTRY_BYTES * ENTRIES, dts_salvage, COPY, BYTES(lent.salvaged),
             BYTES(lent.report));
     MEASURE("dts_carry", 0, dts_carry, 800000000, 1, TABLE, (uintptr_t)&lent.carried);
     MEASURE("dts_device_time", DTS_DEVICE_TIME_BYTES, dts_device_time, STATE, TABLE, OUT);
