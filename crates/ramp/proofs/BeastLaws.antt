@@ -13,11 +13,10 @@ use Rattle.carry.specs.Stamp.{carryOf, carryingNumber}
 use Rattle.carry.specs.declared.stamp.Carried.{Carried}
 use Rattle.carry.specs.declared.stamp.Carried.the-variants.{To, TableNotSound, NotHeld, FaultAmong}
 use Rattle.ramp.specs.Beast.{widestWindow, ageOf, withinB, judgeOf, carriedOr, verdictOf, beastBy, oneBeastOf, verdictNumber, verdictSide}
-use Rattle.ramp.specs.Theorems.{Answers, AnswersWhen, EitherWayRound, firstRefusal, firstSide}
+use Rattle.ramp.specs.Theorems.{AnswersWhen, firstRefusal, firstSide}
 use Rattle.ramp.specs.declared.beast.Seen.{Seen}
 use Rattle.ramp.specs.declared.beast.Verdict.{Verdict}
 use Rattle.ramp.specs.declared.beast.Verdict.the-variants.{One, Two, WindowTooWide, LeftRefused, RightRefused}
-use Rattle.ramp.proofs.AgeLaws.{apart-swap}
 
 -- what was not carried is refused
 pub or-refused : (then : ℤ → Verdict) (refused : ℕ → Verdict) (c : Carried) {n : ℕ} → ((z : ℤ) → c ≡ To z → ⊥) → n ≡ carryingNumber c
@@ -107,32 +106,3 @@ answers l lt r rt window = record {
     by : (b : Bool) (f : Verdict → ℕ) {v : Verdict} {n : ℕ} → f v ≡ n → f (pick b v WindowTooWide) ≡ pick b n (f WindowTooWide)
     by true f e = e
     by false f e = refl
-
--- where neither side is refused it is judged, and that is the same either way round
-judge-swap : (window : ℕ) (a b : ℤ) → judgeOf window b a ≡ judgeOf window a b
-unfolding judgeOf withinB
-judge-swap window a b = rw (apart-swap a b)
-
-verdict-swap : (window lb rb : ℕ) (left right : Carried) → verdictNumber (verdictOf window lb left rb right) ≡ 0
-    → verdictOf window rb right lb left ≡ verdictOf window lb left rb right
-unfolding verdictOf carriedOr verdictNumber carryingNumber
-verdict-swap window lb rb (To l) (To r) h = judge-swap window (ageOf lb l) (ageOf rb r)
-verdict-swap window lb rb (To l) TableNotSound h = absurd (omega arith)
-verdict-swap window lb rb (To l) NotHeld h = absurd (omega arith)
-verdict-swap window lb rb (To l) FaultAmong h = absurd (omega arith)
-verdict-swap window lb rb TableNotSound right h = absurd (omega arith)
-verdict-swap window lb rb NotHeld right h = absurd (omega arith)
-verdict-swap window lb rb FaultAmong right h = absurd (omega arith)
-
-pub either-way-round : EitherWayRound
-unfolding oneBeastOf beastBy
-either-way-round l lt r rt window h = go (leb window widestWindow) h
-  where
-    left : Carried
-    left = carryOf (l .stamp) (l .next) lt
-    right : Carried
-    right = carryOf (r .stamp) (r .next) rt
-    go : (b : Bool) → verdictNumber (pick b (verdictOf window (l .base) left (r .base) right) WindowTooWide) ≡ 0
-        → pick b (verdictOf window (r .base) right (l .base) left) WindowTooWide ≡ pick b (verdictOf window (l .base) left (r .base) right) WindowTooWide
-    go true h = verdict-swap window (l .base) (r .base) left right h
-    go false h = refl

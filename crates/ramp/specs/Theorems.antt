@@ -1,5 +1,4 @@
--- What is promised of one beast or two beyond the call's own equation (change request E5): which answer comes when, and that it is the same
--- whichever antenna is called left.
+-- What is promised of one beast or two beyond the call's own equation (change request E5): which answer comes when.
 use mathlib.Core.Path.{_≡_}
 use mathlib.Core.List.{List}
 use Prim.Native.Nat.{ℕ, _≤_}
@@ -42,9 +41,3 @@ module _ (left : Seen) (leftTable : List ℕ) (right : Seen) (rightTable : List 
 abbrev pub AnswersWhen : Type 0
 AnswersWhen = (left : Seen) (leftTable : List ℕ) (right : Seen) (rightTable : List ℕ) (window : ℕ)
     → Answers left leftTable right rightTable window
-
--- where neither call is refused both say the same
-abbrev pub EitherWayRound : Type 0
-EitherWayRound = (left : Seen) (leftTable : List ℕ) (right : Seen) (rightTable : List ℕ) (window : ℕ)
-    → verdictNumber (oneBeastOf left leftTable right rightTable window) ≡ 0
-    → oneBeastOf right rightTable left leftTable window ≡ oneBeastOf left leftTable right rightTable window

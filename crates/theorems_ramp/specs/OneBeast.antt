@@ -83,3 +83,8 @@ BetweenReads = (lt rt : List ℕ) (lb la rb ra : List Call) (window : ℕ) → s
     length (loggedOf l la) < 65536 → length (loggedOf r ra) < 65536
     → allHeldB l la ≡ true → noFaultB (loggedOf l la) ≡ true → allHeldB r ra ≡ true → noFaultB (loggedOf r ra) ≡ true
     → Between l la r ra window
+
+pub record OneBeastHolds : Type 0 where
+  pub by-carrying : ByCarrying
+  pub one-beast : OneBeast (beastBy carryOf)
+  pub between-reads : BetweenReads
