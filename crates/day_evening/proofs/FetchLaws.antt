@@ -1,4 +1,4 @@
--- Notifications fit the output that is lent, and fetching goes step by step.
+-- Notifications fit the output that is lent, fetching goes step by step, and a ruling needs two notes.
 -- Assumes nothing.
 use mathlib.Core.Path.{_≡_, refl, ap}
 use mathlib.Core.Bool.{Bool, true, false}
@@ -42,8 +42,11 @@ use Rattle.keep.specs.declared.keep.Kept.{Kept}
 use Rattle.keep.specs.declared.keep.Kept.the-variants.{TableNotSound}
 use Rattle.carry.specs.Stamp.{carryOf}
 use Rattle.carry.specs.declared.stamp.Carried.{Carried}
+use Rattle.ramp.specs.Beast.{oneBeastOf}
+use Rattle.ramp.specs.declared.beast.Verdict.{Verdict}
+use Rattle.day_sheet.specs.declared.sheet.Ruling.the-variants.{NoPair, Said}
 use Rattle.day_sheet.specs.declared.sheet.Sight.the-variants.{Missed, Seen}
-use Rattle.day_evening.specs.Fetch.{noTable, unlessRefused, storedIn, keptIn, fetch, askedOf, heardOf, heardAll, sightOf}
+use Rattle.day_evening.specs.Fetch.{noTable, unlessRefused, storedIn, keptIn, fetch, askedOf, heardOf, heardAll, sightOf, window, stamped, rulingOf}
 use Rattle.day_play.specs.Reader.{output}
 use Rattle.day_evening.specs.declared.fetch.Fetch.{Fetch}
 use Rattle.day_play.specs.declared.reader.Note.{Note}
@@ -99,6 +102,20 @@ module _ (n : Note) (t : List ℕ) where
   pub seen : {c : Carried} → n .seen ≡ true → c ≡ carryOf (n .stamp) (n .q) t → Seen (n .stamp) c ≡ sightOf n t
   unfolding sightOf
   seen h e = rw h (ap (Seen (n .stamp)) e)
+
+module _ (l : Note) (lb : ℕ) (lt : List ℕ) (r : Note) (rb : ℕ) (rt : List ℕ) where
+  pub left-missed : l .seen ≡ false → NoPair ≡ rulingOf l lb lt r rb rt
+  unfolding rulingOf
+  left-missed h = rw h
+
+  pub right-missed : l .seen ≡ true → r .seen ≡ false → NoPair ≡ rulingOf l lb lt r rb rt
+  unfolding rulingOf
+  right-missed h k = rw (h, k)
+
+  pub both-seen : {v : Verdict} → l .seen ≡ true → r .seen ≡ true → v ≡ oneBeastOf (stamped l lb) lt (stamped r rb) rt window
+      → Said v ≡ rulingOf l lb lt r rb rt
+  unfolding rulingOf
+  both-seen h k e = rw (h, k) (ap Said e)
 
 -- one notification more
 pub heard-next : (k : ℕ) (t : List ℕ) (f : Fetch) → 0 < k → heardAll k t f ≡ heardAll (k - 1) t (heardOf t f)

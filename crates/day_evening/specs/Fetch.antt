@@ -1,11 +1,11 @@
 -- The evening: the tablet asks a reader for all its records, joins and keeps them in a table of its own, whatever number the reader's log
--- begins with, and carries the day's stamps by that table.
+-- begins with, carries the day's stamps by that table, and asks the ramp whether two are of one beast.
 use mathlib.Core.Bool.{Bool, true, false}
 use mathlib.Core.List.{List, [], _∷_}
 use Prim.Native.Nat.{ℕ, zero, suc}
 use lib.Dec.{eqb}
 use lib.ListN.{replicate, take}
-use Rattle.octets.specs.Choice.{pick}
+use Rattle.octets.specs.Choice.{both, pick}
 use Rattle.codes.specs.Racp.{reportOpcode, allRecords}
 use Rattle.clock.specs.declared.state.Clock.{Clock}
 use Rattle.update.specs.Start.{newReaderOf}
@@ -18,6 +18,10 @@ use Rattle.joining.specs.declared.joining.Joining.{Joining}
 use Rattle.joining.specs.declared.joining.Joined.{Joined}
 use Rattle.keep.specs.Keep.{Keeping, keepOf, keepingNumber}
 use Rattle.carry.specs.Stamp.{carryOf}
+use Rattle.ramp.specs.Beast.{oneBeastOf}
+use Rattle.ramp.specs.declared.beast.Seen.{Seen as Stamped}
+use Rattle.day_sheet.specs.declared.sheet.Ruling.{Ruling}
+use Rattle.day_sheet.specs.declared.sheet.Ruling.the-variants.{NoPair, Said}
 use Rattle.day_sheet.specs.declared.sheet.Sight.{Sight}
 use Rattle.day_sheet.specs.declared.sheet.Sight.the-variants.{Missed, Seen}
 use Rattle.day_play.specs.Reader.{output}
@@ -83,3 +87,18 @@ fetchedOf r = finishedOf (reportOf r)
 -- what the sheet shows of a note: its stamp, and the stamp carried
 unfoldable pub sightOf : Note → List ℕ → Sight
 sightOf n t = pick (n .seen) (Seen (n .stamp) (carryOf (n .stamp) (n .q) t)) Missed
+
+-- in seconds: beasts take seconds from one antenna to the other, three to six on an ordinary day
+abbrev pub window : ℕ
+window = 10
+
+-- a note, with its clock's Base_Time in the evening
+abbrev pub stamped : Note → ℕ → Stamped
+stamped n base = record { base = base; stamp = n .stamp; next = n .q }
+
+-- whether two notes of a tag are of one beast; where one of them is missing there is nothing to compare
+unfoldable pub rulingOf : Note → ℕ → List ℕ → Note → ℕ → List ℕ → Ruling
+rulingOf l leftBase leftTable r rightBase rightTable =
+    pick (both (l .seen) (r .seen))
+    (Said (oneBeastOf (stamped l leftBase) leftTable (stamped r rightBase) rightTable window))
+    NoPair

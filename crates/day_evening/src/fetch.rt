@@ -1,11 +1,12 @@
 // The evening: the tablet asks a reader for all its records, joins and keeps them in a table of its own, whatever number
-// the reader's log begins with, and carries the day's stamps by that table.
+// the reader's log begins with, carries the day's stamps by that table, and asks the ramp whether two are of one beast.
 use carry::stamp::carry;
 use clock::state::Clock;
 use codes::racp::ALL_RECORDS;
 use codes::racp::REPORT_OPCODE;
 use day_play::reader::Note;
 use day_play::reader::Reader;
+use day_sheet::sheet::Ruling;
 use day_sheet::sheet::Sight;
 use joining::joining::Answer;
 use joining::joining::Joined;
@@ -17,11 +18,16 @@ use keep::keep::keeping_number;
 use racp_access::access::record_access;
 use racp_notify::notify::LEAST_PAYLOAD;
 use racp_notify::notify::notify;
+use ramp::beast::Seen;
+use ramp::beast::one_beast;
 use record::kinds::MOST_BYTES;
 use rows::rows::LEAST_OUTPUT;
 use update::start::start;
 ghost use mathlib.Core.Path.{_≡_};
-ghost use Rattle.day_evening.specs.Fetch.{storedIn, keptIn, askedOf, heardOf, finishedOf, fetchedOf, sightOf};
+ghost use Rattle.day_evening.specs.Fetch.{storedIn, keptIn, askedOf, heardOf, finishedOf, fetchedOf, sightOf, rulingOf};
+
+// In seconds: beasts take seconds from one antenna to the other, three to six on an ordinary day.
+const WINDOW: u32 = 10;
 
 // What the reader's clock is and what the tablet has, in the course of a report.
 pub struct Fetch {
@@ -146,4 +152,35 @@ pub fn sight(note: Note, table: [u8; 528]) -> Sight
         return Sight::Missed;
     }
     Sight::Seen(note.stamp, carry(note.stamp, note.q, &table))
+}
+
+// Whether two notes of a tag are of one beast, by the tablet's tables and both clocks' Base_Time at one instant, the
+// evening. Where a note is missing there is nothing to compare.
+pub fn ruling(
+    left: Note,
+    left_base: u32,
+    left_table: [u8; 528],
+    right: Note,
+    right_base: u32,
+    right_table: [u8; 528],
+) -> Ruling
+    ensures { λ r. ⌜ r ≡ rulingOf left «left_base» «left_table» right «right_base» «right_table» ⌝ }
+{
+    if !left.seen {
+        return Ruling::NoPair;
+    }
+    if !right.seen {
+        return Ruling::NoPair;
+    }
+    let first = Seen {
+        base: left_base,
+        stamp: left.stamp,
+        next: left.q,
+    };
+    let second = Seen {
+        base: right_base,
+        stamp: right.stamp,
+        next: right.q,
+    };
+    Ruling::Said(one_beast(first, &left_table, second, &right_table, WINDOW))
 }

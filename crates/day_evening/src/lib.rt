@@ -1,2 +1,3 @@
-// The evening of a loading day: a reader's log fetched over the air, and the day's stamps carried by it, `fetch`.
+// The evening of a loading day, `fetch`: a reader's log fetched over the air, the day's stamps carried by it, and both
+// stamps of a tag compared.
 pub mod fetch;

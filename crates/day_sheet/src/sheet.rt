@@ -1,6 +1,8 @@
-// A tag's line on the sheet: what both antennas noted of it, and the same stamps carried.
+// A tag's line on the sheet: what both antennas noted of it, the same stamps carried, and whether it was one beast.
 use carry::stamp::Carried;
 use carry::stamp::carrying_number;
+use ramp::beast::Verdict;
+use ramp::beast::verdict_number;
 use text::line::Line;
 use text::line::empty;
 use text::line::with_byte;
@@ -8,13 +10,21 @@ use text::line::with_number;
 use text::line::with_word;
 ghost use mathlib.Core.Path.{_≡_};
 ghost use mathlib.Core.List.{_++_};
+ghost use Prim.Native.Nat.{_≤_, _<_};
+ghost use lib.ListN.{length};
 ghost use Rattle.text.specs.Line.{textOf, fitted, twoDigits};
-ghost use Rattle.day_sheet.specs.Sheet.{timeOfDay, notedOf, signedOf, outcomeOf, carriedOf, shownText, gap as Sheet·gap, apartText, pairText, tagLine, titleLine};
+ghost use Rattle.day_sheet.specs.Sheet.{timeOfDay, secondsIn, notedOf, signedOf, outcomeOf, carriedOf, shownText, gap as Sheet·gap, apartText, pairText, verdictText, rulingText, tagLine, titleLine};
 
 // What one antenna has of a tag: the stamp that it noted, and what carrying made of it.
 pub enum Sight {
     Missed,
     Seen(u32, Carried),
+}
+
+// One beast or two: where an antenna missed the tag there is no pair of stamps to compare.
+pub enum Ruling {
+    NoPair,
+    Said(Verdict),
 }
 
 // What stands in a column of times.
@@ -42,8 +52,9 @@ fn with_time(line: Line, base: u64) -> Line
     with_two(minutes, base % 60)
 }
 
+// A stamp has 32 bits, so two of them are apart by a number of at most ten digits.
 fn noted(s: Sight) -> Shown
-    ensures { λ r. ⌜ r ≡ notedOf s ⌝ }
+    ensures { λ r. ⌜ (r ≡ notedOf s) × (secondsIn r < 4294967296) ⌝ }
 {
     match s {
         Sight::Missed => Shown::Nothing,
@@ -119,15 +130,39 @@ fn with_pair(line: Line, x: Shown, y: Shown) -> Line
     with_apart(with_byte(right, b' '), x, y)
 }
 
-// One tag's line. No part of it is dropped: it has at most 95 bytes.
-pub fn tag_line(tag: u16, left: Sight, right: Sight) -> Line
-    ensures { λ l. ⌜ textOf l ≡ tagLine tag left right ⌝ }
+// `one`, `two`, or a refusal's number, after its side where it has one: at most `right 255`.
+fn with_verdict(line: Line, v: Verdict) -> Line
+    ensures { λ l. ⌜ (textOf l ≡ fitted (textOf line ++ verdictText v)) × (length (verdictText v) ≤ 9) ⌝ }
+{
+    let number = verdict_number(v) as u64;
+    match v {
+        Verdict::One => with_word(line, b"one"),
+        Verdict::Two => with_word(line, b"two"),
+        Verdict::WindowTooWide => with_number(line, number),
+        Verdict::LeftRefused(_) => with_number(with_word(line, b"left "), number),
+        Verdict::RightRefused(_) => with_number(with_word(line, b"right "), number),
+    }
+}
+
+fn with_ruling(line: Line, r: Ruling) -> Line
+    ensures { λ l. ⌜ (textOf l ≡ fitted (textOf line ++ rulingText r)) × (length (rulingText r) ≤ 9) ⌝ }
+{
+    match r {
+        Ruling::NoPair => with_byte(line, b'-'),
+        Ruling::Said(v) => with_verdict(line, v),
+    }
+}
+
+// One tag's line. No part of it is dropped: it has at most 88 bytes.
+pub fn tag_line(tag: u16, left: Sight, right: Sight, ruling: Ruling) -> Line
+    ensures { λ l. ⌜ textOf l ≡ tagLine tag left right ruling ⌝ }
 {
     let number = with_number(empty(), tag as u64);
     let both = with_pair(number, noted(left), noted(right));
     let bar = with_word(both, b" |");
     let all = with_pair(bar, carried(left), carried(right));
-    with_byte(all, b'\n')
+    let beasts = with_ruling(with_word(all, b" | "), ruling);
+    with_byte(beasts, b'\n')
 }
 
 pub fn title_line() -> Line
@@ -135,6 +170,6 @@ pub fn title_line() -> Line
 {
     with_word(
         empty(),
-        b"tag left right apart | carried left right apart\n",
+        b"tag left right apart | carried left right apart | beasts\n",
     )
 }

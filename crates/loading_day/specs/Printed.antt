@@ -1,5 +1,5 @@
 -- The sheet of the story, computed on these very definitions: every call of the day with its bytes, both reports in segments of 20 bytes,
--- joined, kept and carried.
+-- joined, kept, carried and compared.
 use mathlib.Core.Path.{_≡_}
 use mathlib.Core.Bool.{true}
 use mathlib.Core.List.{List, [], _∷_, _++_, map}
@@ -43,11 +43,12 @@ use Rattle.joining.specs.Joining.{emptyJoining, rangesB, filledB, placedB, foll
 use Rattle.keep.specs.Keep.{numbered, recordKept, keepOf, keepingNumber}
 use Rattle.carry.specs.Stamp.{laterOf, movedBy, carriedOver, carriedFrom, carryOf}
 use Rattle.carry.specs.Stamp as carries
-use Rattle.day_sheet.specs.Sheet.{timeOfDay, notedOf, signedOf, outcomeOf, carriedOf, shownText, gap, apartText, pairText, tagLine}
+use Rattle.ramp.specs.Beast.{ageOf, withinB, judgeOf, carriedOr, verdictOf, beastBy, oneBeastOf, verdictNumber}
+use Rattle.day_sheet.specs.Sheet.{timeOfDay, notedOf, signedOf, outcomeOf, carriedOf, shownText, gap, apartText, pairText, verdictText, rulingText, tagLine}
 use Rattle.day_play.specs.Reader.{proposalBytes, startedOf, withClock, setOf, failedOf, livedOf}
 use Rattle.day_play.specs.Reader as readers
 use Rattle.day_play.specs.Play.{openedOf, steppedOf, playedOf}
-use Rattle.day_evening.specs.Fetch.{storedIn, keptIn, heardOf, heardAll, finishedOf, reportOf, fetchedOf, sightOf}
+use Rattle.day_evening.specs.Fetch.{storedIn, keptIn, heardOf, heardAll, finishedOf, reportOf, fetchedOf, sightOf, rulingOf}
 use Rattle.day_evening.specs.Fetch as evenings
 use Rattle.day_play.specs.declared.play.Ramp.{Ramp}
 use Rattle.loading_day.specs.Story.{theDay, theTags}
@@ -60,7 +61,7 @@ theRamp = playedOf openedOf theDay
 
 -- the text of its sheet
 unfoldable pub theSheet : List ℕ
-unfolding theRamp sheetOf eveningOf linesOf theTags fetchedOf finishedOf reportOf heardAll heardOf keptIn storedIn keepOf recordKept numbered keepingNumber sightOf evenings.askedOf accessOf accessRows accessed begunOf abortedOf accessedOf requestOf askedOf abortOf requests.filterOperand operandBytes typedB filterAt codeOf codeBytes countBytes firstNumber leftAt leftFrom firstFrom nextMatch matchingFrom matching notifyOf notifyRows roomB headerOf segmentOf leftAfter closingOf saidOf noticed runningNotice reports.firstBytes emptyJoining rangesB filledB placedB followsB standing takesB ground takenOf joinOf readOf carryOf carriedFrom carriedOver movedBy laterOf carries.carryingNumber tagLine pairText apartText gap shownText carriedOf outcomeOf signedOf notedOf timeOfDay twoDigits decimal digitsUpTo
+unfolding theRamp sheetOf eveningOf linesOf theTags fetchedOf finishedOf reportOf heardAll heardOf keptIn storedIn keepOf recordKept numbered keepingNumber sightOf rulingOf evenings.askedOf accessOf accessRows accessed begunOf abortedOf accessedOf requestOf askedOf abortOf requests.filterOperand operandBytes typedB filterAt codeOf codeBytes countBytes firstNumber leftAt leftFrom firstFrom nextMatch matchingFrom matching notifyOf notifyRows roomB headerOf segmentOf leftAfter closingOf saidOf noticed runningNotice reports.firstBytes emptyJoining rangesB filledB placedB followsB standing takesB ground takenOf joinOf readOf carryOf carriedFrom carriedOver movedBy laterOf carries.carryingNumber oneBeastOf beastBy verdictOf carriedOr judgeOf withinB ageOf tagLine rulingText verdictText verdictNumber pairText apartText gap shownText carriedOf outcomeOf signedOf notedOf timeOfDay twoDigits decimal digitsUpTo
 theSheet = eveningOf theTags theRamp
 
 -- a text's lines in a row
@@ -70,24 +71,24 @@ joinedLines (l ∷ ls) = l ++ joinedLines ls
 
 unfoldable pub printed : List (List ℕ)
 printed =
-    -- `tag left right apart | carried left right apart`
-    (116 ∷ 97 ∷ 103 ∷ 32 ∷ 108 ∷ 101 ∷ 102 ∷ 116 ∷ 32 ∷ 114 ∷ 105 ∷ 103 ∷ 104 ∷ 116 ∷ 32 ∷ 97 ∷ 112 ∷ 97 ∷ 114 ∷ 116 ∷ 32 ∷ 124 ∷ 32 ∷ 99 ∷ 97 ∷ 114 ∷ 114 ∷ 105 ∷ 101 ∷ 100 ∷ 32 ∷ 108 ∷ 101 ∷ 102 ∷ 116 ∷ 32 ∷ 114 ∷ 105 ∷ 103 ∷ 104 ∷ 116 ∷ 32 ∷ 97 ∷ 112 ∷ 97 ∷ 114 ∷ 116 ∷ 10 ∷ [])
-    -- `4101 06:40:00 06:30:03 597 | 06:30:00 refused 13 -`
-    ∷ (52 ∷ 49 ∷ 48 ∷ 49 ∷ 32 ∷ 48 ∷ 54 ∷ 58 ∷ 52 ∷ 48 ∷ 58 ∷ 48 ∷ 48 ∷ 32 ∷ 48 ∷ 54 ∷ 58 ∷ 51 ∷ 48 ∷ 58 ∷ 48 ∷ 51 ∷ 32 ∷ 53 ∷ 57 ∷ 55 ∷ 32 ∷ 124 ∷ 32 ∷ 48 ∷ 54 ∷ 58 ∷ 51 ∷ 48 ∷ 58 ∷ 48 ∷ 48 ∷ 32 ∷ 114 ∷ 101 ∷ 102 ∷ 117 ∷ 115 ∷ 101 ∷ 100 ∷ 32 ∷ 49 ∷ 51 ∷ 32 ∷ 45 ∷ 10 ∷ [])
-    -- `4102 06:41:20 06:00:24 2456 | 06:31:20 06:31:24 4`
-    ∷ (52 ∷ 49 ∷ 48 ∷ 50 ∷ 32 ∷ 48 ∷ 54 ∷ 58 ∷ 52 ∷ 49 ∷ 58 ∷ 50 ∷ 48 ∷ 32 ∷ 48 ∷ 54 ∷ 58 ∷ 48 ∷ 48 ∷ 58 ∷ 50 ∷ 52 ∷ 32 ∷ 50 ∷ 52 ∷ 53 ∷ 54 ∷ 32 ∷ 124 ∷ 32 ∷ 48 ∷ 54 ∷ 58 ∷ 51 ∷ 49 ∷ 58 ∷ 50 ∷ 48 ∷ 32 ∷ 48 ∷ 54 ∷ 58 ∷ 51 ∷ 49 ∷ 58 ∷ 50 ∷ 52 ∷ 32 ∷ 52 ∷ 10 ∷ [])
-    -- `4103 06:42:30 06:32:35 595 | 06:32:30 06:32:35 5`
-    ∷ (52 ∷ 49 ∷ 48 ∷ 51 ∷ 32 ∷ 48 ∷ 54 ∷ 58 ∷ 52 ∷ 50 ∷ 58 ∷ 51 ∷ 48 ∷ 32 ∷ 48 ∷ 54 ∷ 58 ∷ 51 ∷ 50 ∷ 58 ∷ 51 ∷ 53 ∷ 32 ∷ 53 ∷ 57 ∷ 53 ∷ 32 ∷ 124 ∷ 32 ∷ 48 ∷ 54 ∷ 58 ∷ 51 ∷ 50 ∷ 58 ∷ 51 ∷ 48 ∷ 32 ∷ 48 ∷ 54 ∷ 58 ∷ 51 ∷ 50 ∷ 58 ∷ 51 ∷ 53 ∷ 32 ∷ 53 ∷ 10 ∷ [])
-    -- `4104 06:43:30 06:33:34 596 | 06:33:30 06:33:34 4`
-    ∷ (52 ∷ 49 ∷ 48 ∷ 52 ∷ 32 ∷ 48 ∷ 54 ∷ 58 ∷ 52 ∷ 51 ∷ 58 ∷ 51 ∷ 48 ∷ 32 ∷ 48 ∷ 54 ∷ 58 ∷ 51 ∷ 51 ∷ 58 ∷ 51 ∷ 52 ∷ 32 ∷ 53 ∷ 57 ∷ 54 ∷ 32 ∷ 124 ∷ 32 ∷ 48 ∷ 54 ∷ 58 ∷ 51 ∷ 51 ∷ 58 ∷ 51 ∷ 48 ∷ 32 ∷ 48 ∷ 54 ∷ 58 ∷ 51 ∷ 51 ∷ 58 ∷ 51 ∷ 52 ∷ 32 ∷ 52 ∷ 10 ∷ [])
-    -- `4105 06:44:00 06:34:05 595 | 06:34:00 06:34:05 5`
-    ∷ (52 ∷ 49 ∷ 48 ∷ 53 ∷ 32 ∷ 48 ∷ 54 ∷ 58 ∷ 52 ∷ 52 ∷ 58 ∷ 48 ∷ 48 ∷ 32 ∷ 48 ∷ 54 ∷ 58 ∷ 51 ∷ 52 ∷ 58 ∷ 48 ∷ 53 ∷ 32 ∷ 53 ∷ 57 ∷ 53 ∷ 32 ∷ 124 ∷ 32 ∷ 48 ∷ 54 ∷ 58 ∷ 51 ∷ 52 ∷ 58 ∷ 48 ∷ 48 ∷ 32 ∷ 48 ∷ 54 ∷ 58 ∷ 51 ∷ 52 ∷ 58 ∷ 48 ∷ 53 ∷ 32 ∷ 53 ∷ 10 ∷ [])
-    -- `4106 06:35:00 06:35:04 4 | 06:35:00 06:35:04 4`
-    ∷ (52 ∷ 49 ∷ 48 ∷ 54 ∷ 32 ∷ 48 ∷ 54 ∷ 58 ∷ 51 ∷ 53 ∷ 58 ∷ 48 ∷ 48 ∷ 32 ∷ 48 ∷ 54 ∷ 58 ∷ 51 ∷ 53 ∷ 58 ∷ 48 ∷ 52 ∷ 32 ∷ 52 ∷ 32 ∷ 124 ∷ 32 ∷ 48 ∷ 54 ∷ 58 ∷ 51 ∷ 53 ∷ 58 ∷ 48 ∷ 48 ∷ 32 ∷ 48 ∷ 54 ∷ 58 ∷ 51 ∷ 53 ∷ 58 ∷ 48 ∷ 52 ∷ 32 ∷ 52 ∷ 10 ∷ [])
-    -- `4107 06:36:00 - - | 06:36:00 - -`
-    ∷ (52 ∷ 49 ∷ 48 ∷ 55 ∷ 32 ∷ 48 ∷ 54 ∷ 58 ∷ 51 ∷ 54 ∷ 58 ∷ 48 ∷ 48 ∷ 32 ∷ 45 ∷ 32 ∷ 45 ∷ 32 ∷ 124 ∷ 32 ∷ 48 ∷ 54 ∷ 58 ∷ 51 ∷ 54 ∷ 58 ∷ 48 ∷ 48 ∷ 32 ∷ 45 ∷ 32 ∷ 45 ∷ 10 ∷ [])
-    -- `4108 06:37:06 06:37:00 6 | 06:37:06 06:37:00 6`
-    ∷ (52 ∷ 49 ∷ 48 ∷ 56 ∷ 32 ∷ 48 ∷ 54 ∷ 58 ∷ 51 ∷ 55 ∷ 58 ∷ 48 ∷ 54 ∷ 32 ∷ 48 ∷ 54 ∷ 58 ∷ 51 ∷ 55 ∷ 58 ∷ 48 ∷ 48 ∷ 32 ∷ 54 ∷ 32 ∷ 124 ∷ 32 ∷ 48 ∷ 54 ∷ 58 ∷ 51 ∷ 55 ∷ 58 ∷ 48 ∷ 54 ∷ 32 ∷ 48 ∷ 54 ∷ 58 ∷ 51 ∷ 55 ∷ 58 ∷ 48 ∷ 48 ∷ 32 ∷ 54 ∷ 10 ∷ [])
+    -- `tag left right apart | carried left right apart | beasts`
+    (116 ∷ 97 ∷ 103 ∷ 32 ∷ 108 ∷ 101 ∷ 102 ∷ 116 ∷ 32 ∷ 114 ∷ 105 ∷ 103 ∷ 104 ∷ 116 ∷ 32 ∷ 97 ∷ 112 ∷ 97 ∷ 114 ∷ 116 ∷ 32 ∷ 124 ∷ 32 ∷ 99 ∷ 97 ∷ 114 ∷ 114 ∷ 105 ∷ 101 ∷ 100 ∷ 32 ∷ 108 ∷ 101 ∷ 102 ∷ 116 ∷ 32 ∷ 114 ∷ 105 ∷ 103 ∷ 104 ∷ 116 ∷ 32 ∷ 97 ∷ 112 ∷ 97 ∷ 114 ∷ 116 ∷ 32 ∷ 124 ∷ 32 ∷ 98 ∷ 101 ∷ 97 ∷ 115 ∷ 116 ∷ 115 ∷ 10 ∷ [])
+    -- `4101 06:40:00 06:30:03 597 | 06:30:00 refused 13 - | right 13`
+    ∷ (52 ∷ 49 ∷ 48 ∷ 49 ∷ 32 ∷ 48 ∷ 54 ∷ 58 ∷ 52 ∷ 48 ∷ 58 ∷ 48 ∷ 48 ∷ 32 ∷ 48 ∷ 54 ∷ 58 ∷ 51 ∷ 48 ∷ 58 ∷ 48 ∷ 51 ∷ 32 ∷ 53 ∷ 57 ∷ 55 ∷ 32 ∷ 124 ∷ 32 ∷ 48 ∷ 54 ∷ 58 ∷ 51 ∷ 48 ∷ 58 ∷ 48 ∷ 48 ∷ 32 ∷ 114 ∷ 101 ∷ 102 ∷ 117 ∷ 115 ∷ 101 ∷ 100 ∷ 32 ∷ 49 ∷ 51 ∷ 32 ∷ 45 ∷ 32 ∷ 124 ∷ 32 ∷ 114 ∷ 105 ∷ 103 ∷ 104 ∷ 116 ∷ 32 ∷ 49 ∷ 51 ∷ 10 ∷ [])
+    -- `4102 06:41:20 06:00:24 2456 | 06:31:20 06:31:24 4 | one`
+    ∷ (52 ∷ 49 ∷ 48 ∷ 50 ∷ 32 ∷ 48 ∷ 54 ∷ 58 ∷ 52 ∷ 49 ∷ 58 ∷ 50 ∷ 48 ∷ 32 ∷ 48 ∷ 54 ∷ 58 ∷ 48 ∷ 48 ∷ 58 ∷ 50 ∷ 52 ∷ 32 ∷ 50 ∷ 52 ∷ 53 ∷ 54 ∷ 32 ∷ 124 ∷ 32 ∷ 48 ∷ 54 ∷ 58 ∷ 51 ∷ 49 ∷ 58 ∷ 50 ∷ 48 ∷ 32 ∷ 48 ∷ 54 ∷ 58 ∷ 51 ∷ 49 ∷ 58 ∷ 50 ∷ 52 ∷ 32 ∷ 52 ∷ 32 ∷ 124 ∷ 32 ∷ 111 ∷ 110 ∷ 101 ∷ 10 ∷ [])
+    -- `4103 06:42:30 06:32:35 595 | 06:32:30 06:32:35 5 | one`
+    ∷ (52 ∷ 49 ∷ 48 ∷ 51 ∷ 32 ∷ 48 ∷ 54 ∷ 58 ∷ 52 ∷ 50 ∷ 58 ∷ 51 ∷ 48 ∷ 32 ∷ 48 ∷ 54 ∷ 58 ∷ 51 ∷ 50 ∷ 58 ∷ 51 ∷ 53 ∷ 32 ∷ 53 ∷ 57 ∷ 53 ∷ 32 ∷ 124 ∷ 32 ∷ 48 ∷ 54 ∷ 58 ∷ 51 ∷ 50 ∷ 58 ∷ 51 ∷ 48 ∷ 32 ∷ 48 ∷ 54 ∷ 58 ∷ 51 ∷ 50 ∷ 58 ∷ 51 ∷ 53 ∷ 32 ∷ 53 ∷ 32 ∷ 124 ∷ 32 ∷ 111 ∷ 110 ∷ 101 ∷ 10 ∷ [])
+    -- `4104 06:43:30 06:33:34 596 | 06:33:30 06:33:34 4 | one`
+    ∷ (52 ∷ 49 ∷ 48 ∷ 52 ∷ 32 ∷ 48 ∷ 54 ∷ 58 ∷ 52 ∷ 51 ∷ 58 ∷ 51 ∷ 48 ∷ 32 ∷ 48 ∷ 54 ∷ 58 ∷ 51 ∷ 51 ∷ 58 ∷ 51 ∷ 52 ∷ 32 ∷ 53 ∷ 57 ∷ 54 ∷ 32 ∷ 124 ∷ 32 ∷ 48 ∷ 54 ∷ 58 ∷ 51 ∷ 51 ∷ 58 ∷ 51 ∷ 48 ∷ 32 ∷ 48 ∷ 54 ∷ 58 ∷ 51 ∷ 51 ∷ 58 ∷ 51 ∷ 52 ∷ 32 ∷ 52 ∷ 32 ∷ 124 ∷ 32 ∷ 111 ∷ 110 ∷ 101 ∷ 10 ∷ [])
+    -- `4105 06:44:00 06:34:05 595 | 06:34:00 06:34:05 5 | one`
+    ∷ (52 ∷ 49 ∷ 48 ∷ 53 ∷ 32 ∷ 48 ∷ 54 ∷ 58 ∷ 52 ∷ 52 ∷ 58 ∷ 48 ∷ 48 ∷ 32 ∷ 48 ∷ 54 ∷ 58 ∷ 51 ∷ 52 ∷ 58 ∷ 48 ∷ 53 ∷ 32 ∷ 53 ∷ 57 ∷ 53 ∷ 32 ∷ 124 ∷ 32 ∷ 48 ∷ 54 ∷ 58 ∷ 51 ∷ 52 ∷ 58 ∷ 48 ∷ 48 ∷ 32 ∷ 48 ∷ 54 ∷ 58 ∷ 51 ∷ 52 ∷ 58 ∷ 48 ∷ 53 ∷ 32 ∷ 53 ∷ 32 ∷ 124 ∷ 32 ∷ 111 ∷ 110 ∷ 101 ∷ 10 ∷ [])
+    -- `4106 06:35:00 06:35:04 4 | 06:35:00 06:35:04 4 | one`
+    ∷ (52 ∷ 49 ∷ 48 ∷ 54 ∷ 32 ∷ 48 ∷ 54 ∷ 58 ∷ 51 ∷ 53 ∷ 58 ∷ 48 ∷ 48 ∷ 32 ∷ 48 ∷ 54 ∷ 58 ∷ 51 ∷ 53 ∷ 58 ∷ 48 ∷ 52 ∷ 32 ∷ 52 ∷ 32 ∷ 124 ∷ 32 ∷ 48 ∷ 54 ∷ 58 ∷ 51 ∷ 53 ∷ 58 ∷ 48 ∷ 48 ∷ 32 ∷ 48 ∷ 54 ∷ 58 ∷ 51 ∷ 53 ∷ 58 ∷ 48 ∷ 52 ∷ 32 ∷ 52 ∷ 32 ∷ 124 ∷ 32 ∷ 111 ∷ 110 ∷ 101 ∷ 10 ∷ [])
+    -- `4107 06:36:00 - - | 06:36:00 - - | -`
+    ∷ (52 ∷ 49 ∷ 48 ∷ 55 ∷ 32 ∷ 48 ∷ 54 ∷ 58 ∷ 51 ∷ 54 ∷ 58 ∷ 48 ∷ 48 ∷ 32 ∷ 45 ∷ 32 ∷ 45 ∷ 32 ∷ 124 ∷ 32 ∷ 48 ∷ 54 ∷ 58 ∷ 51 ∷ 54 ∷ 58 ∷ 48 ∷ 48 ∷ 32 ∷ 45 ∷ 32 ∷ 45 ∷ 32 ∷ 124 ∷ 32 ∷ 45 ∷ 10 ∷ [])
+    -- `4108 06:37:06 06:37:00 6 | 06:37:06 06:37:00 6 | one`
+    ∷ (52 ∷ 49 ∷ 48 ∷ 56 ∷ 32 ∷ 48 ∷ 54 ∷ 58 ∷ 51 ∷ 55 ∷ 58 ∷ 48 ∷ 54 ∷ 32 ∷ 48 ∷ 54 ∷ 58 ∷ 51 ∷ 55 ∷ 58 ∷ 48 ∷ 48 ∷ 32 ∷ 54 ∷ 32 ∷ 124 ∷ 32 ∷ 48 ∷ 54 ∷ 58 ∷ 51 ∷ 55 ∷ 58 ∷ 48 ∷ 54 ∷ 32 ∷ 48 ∷ 54 ∷ 58 ∷ 51 ∷ 55 ∷ 58 ∷ 48 ∷ 48 ∷ 32 ∷ 54 ∷ 32 ∷ 124 ∷ 32 ∷ 111 ∷ 110 ∷ 101 ∷ 10 ∷ [])
     ∷ []
 
 -- The table u is a copy of the table t: sound, with t's records and t's next number, though not always in t's slots; so any stamp is carried

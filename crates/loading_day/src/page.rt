@@ -1,5 +1,6 @@
 // The page that is printed: the title and a line for each tag.
 use day_evening::fetch::fetched;
+use day_evening::fetch::ruling;
 use day_evening::fetch::sight;
 use day_play::play::Happening;
 use day_play::play::Ramp;
@@ -14,7 +15,7 @@ ghost use mathlib.Core.List.{[], _++_};
 ghost use Prim.Native.Nat.{_+_, _≤_};
 ghost use Rattle.text.specs.Line.{textOf};
 ghost use Rattle.day_sheet.specs.Sheet.{titleLine};
-ghost use Rattle.loading_day.specs.Page.{pageText, linesOf, eveningOf, sheetOf};
+ghost use Rattle.loading_day.specs.Page.{pageText, lineOf, linesOf, eveningOf, sheetOf};
 
 // Nine lines of at most 96 bytes; its first `len` bytes count.
 pub struct Page {
@@ -41,28 +42,56 @@ fn with_line(page: Page, line: Line) -> Page
     Page { bytes, len }
 }
 
-// The title and the lines, from the notes of both readers and their tables as the tablet fetched them.
+// A tag's line, from the notes of both readers, their clocks' Base_Time in the evening, and their tables as the tablet
+// fetched them.
+fn line_of(
+    tag: u16,
+    left: Note,
+    left_base: u32,
+    left_table: [u8; 528],
+    right: Note,
+    right_base: u32,
+    right_table: [u8; 528],
+) -> Line
+    ensures { λ l. ⌜ textOf l ≡ lineOf tag left «left_base» «left_table» right «right_base» «right_table» ⌝ }
+{
+    let first = sight(left, left_table);
+    let second = sight(right, right_table);
+    let said = ruling(left, left_base, left_table, right, right_base, right_table);
+    tag_line(tag, first, second, said)
+}
+
+// The title and the lines.
 fn page_of(
     tags: [u16; 8],
     left: [Note; 8],
-    right: [Note; 8],
+    left_base: u32,
     left_table: [u8; 528],
+    right: [Note; 8],
+    right_base: u32,
     right_table: [u8; 528],
 ) -> Page
-    ensures { λ p. ⌜ (pageText p ≡ titleLine ++ linesOf tags left right «left_table» «right_table») × (p .len ≤ 864) ⌝ }
+    ensures { λ p. ⌜ (pageText p ≡ titleLine ++ linesOf tags left «left_base» «left_table» right «right_base» «right_table») × (p .len ≤ 864) ⌝ }
 {
     let mut page = with_line(blank(), title_line());
     let mut k = 0;
     while k < 8 {
-        let first = sight(left[k], left_table);
-        let second = sight(right[k], right_table);
-        page = with_line(page, tag_line(tags[k], first, second));
+        let line = line_of(
+            tags[k],
+            left[k],
+            left_base,
+            left_table,
+            right[k],
+            right_base,
+            right_table,
+        );
+        page = with_line(page, line);
         k += 1;
     }
     page
 }
 
-// The sheet of a ramp in the evening, when the tablet fetches both logs.
+// The sheet of a ramp in the evening, when the tablet fetches both logs: both clocks are read at one instant.
 fn evening(ramp: Ramp, tags: [u16; 8]) -> Page
     ensures { λ p. ⌜ (pageText p ≡ eveningOf tags ramp) × (p .len ≤ 864) ⌝ }
 {
@@ -70,7 +99,17 @@ fn evening(ramp: Ramp, tags: [u16; 8]) -> Page
     let right = ramp.right;
     let left_notes = left.notes;
     let right_notes = right.notes;
-    page_of(tags, left_notes, right_notes, fetched(left), fetched(right))
+    let left_clock = left.clock;
+    let right_clock = right.clock;
+    page_of(
+        tags,
+        left_notes,
+        left_clock.time.base,
+        fetched(left),
+        right_notes,
+        right_clock.time.base,
+        fetched(right),
+    )
 }
 
 // The sheet of a day.

@@ -4,10 +4,9 @@ use mathlib.Core.Path.{_≡_, refl, sym, _∙_, ap}
 use mathlib.Core.Bool.{Bool, true, false}
 use mathlib.Core.List.{List}
 use Prim.Native.Nat.{ℕ, _≤_, _<_}
-use native.Mathlib.Omega.{arith}
 use borrow.Author.Tests.{le-leb, lt-leb}
-use lib.Dec.{leb, eqb}
-use lib.IntN.{ℤ, pos, natAbs, _-ℤ_}
+use lib.Dec.{leb}
+use lib.IntN.{ℤ}
 use Rattle.octets.specs.Choice.{pick}
 use Rattle.carry.specs.Stamp.{carryOf, carryingNumber}
 use Rattle.carry.specs.declared.stamp.Carried.{Carried}
@@ -94,15 +93,17 @@ side-is window lb rb FaultAmong right = refl
 pub answers : AnswersWhen
 unfolding oneBeastOf beastBy verdictNumber verdictSide
 answers l lt r rt window = record {
-      number = by (leb window widestWindow) verdictNumber (number-is window (l .base) (r .base) left right);
-      side = by (leb window widestWindow) verdictSide (side-is window (l .base) (r .base) left right);
-      judged = λ x y h e f. narrow l lt r rt window h ∙ both-carried window (l .base) (r .base) left right x y e f;
-    }
+  number = by (leb window widestWindow) verdictNumber (number-is window (l .base) (r .base) left right);
+  side = by (leb window widestWindow) verdictSide (side-is window (l .base) (r .base) left right);
+  judged = λ x y h e f. narrow l lt r rt window h ∙ both-carried window (l .base) (r .base) left right x y e f;
+}
   where
     left : Carried
     left = carryOf (l .stamp) (l .next) lt
+
     right : Carried
     right = carryOf (r .stamp) (r .next) rt
+
     by : (b : Bool) (f : Verdict → ℕ) {v : Verdict} {n : ℕ} → f v ≡ n → f (pick b v WindowTooWide) ≡ pick b n (f WindowTooWide)
     by true f e = e
     by false f e = refl

@@ -5,7 +5,7 @@ use carry::stamp::carry;
 use carry::stamp::carrying_number;
 ghost use mathlib.Core.Path.{_≡_};
 ghost use Prim.Native.Nat.{_≤_};
-ghost use lib.IntN.{pos, natAbs, _-ℤ_};
+ghost use lib.IntN.{natAbs, _-ℤ_};
 ghost use Rattle.ramp.specs.Beast.{Sized, carriedBound, ageBound, ageOf, judgeOf, verdictOf, oneBeastOf, verdictNumber, verdictSide};
 
 // "a window of 0 to 60 seconds"
@@ -77,7 +77,13 @@ fn judged(window: u32, left_base: u32, left: Carried, right_base: u32, right: Ca
 }
 
 // One beast or two (change request E5). Refuses: 18; then all of the left carrying, 1, 12, 13; then all of the right one.
-pub fn one_beast(left: Seen, left_table: &[u8], right: Seen, right_table: &[u8], window: u32) -> Verdict
+pub fn one_beast(
+    left: Seen,
+    left_table: &[u8],
+    right: Seen,
+    right_table: &[u8],
+    window: u32,
+) -> Verdict
     ensures { λ v. ⌜ v ≡ oneBeastOf left (now («left_table» .entry)) right (now («right_table» .entry)) window ⌝ }
 {
     if WIDEST_WINDOW < window {

@@ -1,12 +1,12 @@
 -- The three numbers of a part: those of no part, and the bytes that they lead to.
 -- Assumes nothing.
-use mathlib.Core.Path.{_≡_, refl, sym, _∙_, ap}
+use mathlib.Core.Path.{_≡_, refl, ap}
 use mathlib.Core.List.{List, [], _∷_}
 use Prim.Native.Nat.{ℕ}
 use lib.ListN.{length, take, drop}
 use Rattle.octets.specs.Numbers.{at}
 use Rattle.octets.specs.Parts.{part}
-use Rattle.table_look.specs.Part.{slotPlace, placeAt, partAt}
+use Rattle.table_look.specs.Part.{placeAt, partAt}
 use Rattle.table_look.proofs.LookLaws.{part-length}
 use Rattle.ramp_newest.specs.Newest.{laterUpdateOf, partOf, newestUpdateOf, laterSide}
 use Rattle.ramp_newest.specs.declared.newest.Later.{Later}

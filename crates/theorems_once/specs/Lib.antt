@@ -7,6 +7,7 @@ pub mod OfTablet
 pub mod OfBoundary
 pub mod OfCalendar
 pub mod OfSalvage
+pub mod OfRamp
 pub mod OfPrograms
 pub mod Weaker
 pub mod OfEntries

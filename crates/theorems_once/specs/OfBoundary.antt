@@ -33,6 +33,10 @@ use Rattle.firmware.proofs.tablet_calls.dts_carry.Kinds as carry-kinds
 use Rattle.firmware.proofs.tablet_calls.dts_carry.Reads as carry-reads
 use Rattle.firmware.proofs.tablet_calls.dts_salvage.Kinds as salvage-kinds
 use Rattle.firmware.proofs.tablet_calls.dts_salvage.Reads as salvage-reads
+use Rattle.firmware.proofs.ramp_calls.dts_one_beast.Kinds as one-beast-kinds
+use Rattle.firmware.proofs.ramp_calls.dts_one_beast.Reads as one-beast-reads
+use Rattle.firmware.proofs.ramp_calls.dts_newest_update.Kinds as newest-update-kinds
+use Rattle.firmware.proofs.ramp_calls.dts_newest_update.Reads as newest-update-reads
 use Rattle.firmware.proofs.errors.dts_att_error.Kinds as att-error-kinds
 use Rattle.firmware.proofs.errors.dts_att_error.Reads as att-error-reads
 use Rattle.state_bytes.proofs.state.image_of.Kinds as image-of-kinds
@@ -57,6 +61,8 @@ pub record OneOutcome : Type 0 where
   pub keep : Door keep-kinds.ps keep-kinds.r keep-reads.Pre keep-reads.Post
   pub carry : Door carry-kinds.ps carry-kinds.r carry-reads.Pre carry-reads.Post
   pub salvage : Door salvage-kinds.ps salvage-kinds.r salvage-reads.Pre salvage-reads.Post
+  pub one-beast : Door one-beast-kinds.ps one-beast-kinds.r one-beast-reads.Pre one-beast-reads.Post
+  pub newest-update : Door newest-update-kinds.ps newest-update-kinds.r newest-update-reads.Pre newest-update-reads.Post
   pub att-error : Door att-error-kinds.ps att-error-kinds.r att-error-reads.Pre att-error-reads.Post
   pub image-of : Only image-of-kinds.ps image-of-kinds.r image-of-reads.Pre image-of-reads.Post
   pub clock-of : Only clock-of-kinds.ps clock-of-kinds.r clock-of-reads.Pre clock-of-reads.Post

@@ -33,6 +33,10 @@ use Rattle.firmware.proofs.tablet_calls.dts_carry.Kinds as carry-kinds
 use Rattle.firmware.proofs.tablet_calls.dts_carry.Reads as carry-reads
 use Rattle.firmware.proofs.tablet_calls.dts_salvage.Kinds as salvage-kinds
 use Rattle.firmware.proofs.tablet_calls.dts_salvage.Reads as salvage-reads
+use Rattle.firmware.proofs.ramp_calls.dts_one_beast.Kinds as one-beast-kinds
+use Rattle.firmware.proofs.ramp_calls.dts_one_beast.Reads as one-beast-reads
+use Rattle.firmware.proofs.ramp_calls.dts_newest_update.Kinds as newest-update-kinds
+use Rattle.firmware.proofs.ramp_calls.dts_newest_update.Reads as newest-update-reads
 use Rattle.firmware.proofs.errors.dts_att_error.Kinds as att-error-kinds
 use Rattle.firmware.proofs.errors.dts_att_error.Reads as att-error-reads
 
@@ -53,4 +57,6 @@ pub record SomeOutcome : Type 0 where
   pub keep : Some keep-kinds.ps keep-kinds.r keep-reads.Post
   pub carry : Some carry-kinds.ps carry-kinds.r carry-reads.Post
   pub salvage : Some salvage-kinds.ps salvage-kinds.r salvage-reads.Post
+  pub one-beast : Some one-beast-kinds.ps one-beast-kinds.r one-beast-reads.Post
+  pub newest-update : Some newest-update-kinds.ps newest-update-kinds.r newest-update-reads.Post
   pub att-error : Some att-error-kinds.ps att-error-kinds.r att-error-reads.Post

@@ -58,6 +58,8 @@ use Rattle.day_evening.proofs.fetch.fetched.Kinds as fetched-kinds
 use Rattle.day_evening.proofs.fetch.fetched.Reads as fetched-reads
 use Rattle.day_evening.proofs.fetch.sight.Kinds as sight-kinds
 use Rattle.day_evening.proofs.fetch.sight.Reads as sight-reads
+use Rattle.day_evening.proofs.fetch.ruling.Kinds as ruling-kinds
+use Rattle.day_evening.proofs.fetch.ruling.Reads as ruling-reads
 
 pub record OneOutcome : Type 0 where
   pub empty : DoorPart empty-kinds.ps empty-kinds.r (λ κs. textOf) empty-reads.Pre empty-reads.Post
@@ -88,3 +90,4 @@ pub record OneOutcome : Type 0 where
   pub played : Door played-kinds.ps played-kinds.r played-reads.Pre played-reads.Post
   pub fetched : Door fetched-kinds.ps fetched-kinds.r fetched-reads.Pre fetched-reads.Post
   pub sight : Door sight-kinds.ps sight-kinds.r sight-reads.Pre sight-reads.Post
+  pub ruling : Door ruling-kinds.ps ruling-kinds.r ruling-reads.Pre ruling-reads.Post

@@ -1,5 +1,5 @@
 -- One outcome of each call on a table: its header, soundness, starting, logging, looking into it. `sound` and `start` are doors.
-use Rattle.theorems_once.specs.Only.{Only, Door}
+use Rattle.theorems_once.specs.Only.{Only, OnlyPart, Door}
 use Rattle.table.proofs.header.slots_in.Kinds as slots-in-kinds
 use Rattle.table.proofs.header.slots_in.Reads as slots-in-reads
 use Rattle.table.proofs.header.size_ok.Kinds as size-ok-kinds
@@ -28,6 +28,10 @@ use Rattle.table_look.proofs.look.next_number.Kinds as next-number-kinds
 use Rattle.table_look.proofs.look.next_number.Reads as next-number-reads
 use Rattle.table_look.proofs.look.age_of.Kinds as age-of-kinds
 use Rattle.table_look.proofs.look.age_of.Reads as age-of-reads
+use Rattle.table_look.proofs.look.place_at.Kinds as place-at-kinds
+use Rattle.table_look.proofs.look.place_at.Reads as place-at-reads
+use Rattle.table_look.proofs.look.part_at.Kinds as part-at-kinds
+use Rattle.table_look.proofs.look.part_at.Reads as part-at-reads
 use Rattle.table_look.proofs.look.record_at.Kinds as record-at-kinds
 use Rattle.table_look.proofs.look.record_at.Reads as record-at-reads
 use Rattle.table_look.proofs.matching.next_match.Kinds as next-match-kinds
@@ -50,6 +54,8 @@ pub record OneOutcome : Type 0 where
   pub held-count : Only held-count-kinds.ps held-count-kinds.r held-count-reads.Pre held-count-reads.Post
   pub next-number : Only next-number-kinds.ps next-number-kinds.r next-number-reads.Pre next-number-reads.Post
   pub age-of : Only age-of-kinds.ps age-of-kinds.r age-of-reads.Pre age-of-reads.Post
+  pub place-at : Only place-at-kinds.ps place-at-kinds.r place-at-reads.Pre place-at-reads.Post
+  pub part-at : OnlyPart part-at-kinds.ps part-at-kinds.r (λ κs x. x .now) part-at-reads.Pre part-at-reads.Post
   pub record-at : Only record-at-kinds.ps record-at-kinds.r record-at-reads.Pre record-at-reads.Post
   pub next-match : Only next-match-kinds.ps next-match-kinds.r next-match-reads.Pre next-match-reads.Post
   pub count-matching : Only count-matching-kinds.ps count-matching-kinds.r count-matching-reads.Pre count-matching-reads.Post

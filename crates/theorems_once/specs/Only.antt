@@ -11,8 +11,8 @@
 -- component for each parameter in order, closed by `tt`. That of a `&mut` is its bytes or number; of all else it is `tt`, since nothing of it
 -- changes.
 --
--- A call has four lines: the two above, its field in the file of its family, and that field's proof. A function that returns a reference
--- cannot be stated so; there is none.
+-- A call has four lines: the two above, its field in the file of its family, and that field's proof. Of a function that hands back a part of what
+-- was lent, the part that is one is what stands there, `x .now`.
 use mathlib.Core.Path.{_≡_}
 use mathlib.Core.List.{List}
 use Prim.Native.Nat.{ℕ}

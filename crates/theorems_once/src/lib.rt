@@ -6,6 +6,7 @@ pub mod of_boundary;
 pub mod of_calendar;
 pub mod of_entries;
 pub mod of_programs;
+pub mod of_ramp;
 pub mod of_records;
 pub mod of_salvage;
 pub mod of_server;

@@ -3,14 +3,12 @@
 use mathlib.Core.Path.{_≡_, refl, sym, _∙_, ap, subst}
 use mathlib.Core.Bool.{Bool, true, false, cond}
 use mathlib.Core.List.{List}
-use Prim.Native.Nat.{ℕ, zero, suc, _+_, _-_, _≤_, _<_}
+use Prim.Native.Nat.{ℕ, zero, suc, _+_, _-_}
 use native.Mathlib.Omega.{arith}
 use borrow.Author.Tests.{le-leb, ltb-true, ltb-false}
 use lib.Dec.{T, leb, ltb, eqb}
 use lib.IntN.{ℤ, pos, negsuc, natAbs, _-ℤ_}
-use lib.ListN.{length}
 use Rattle.octets.specs.Choice.{both, pick}
-use Rattle.table.specs.Table.{sizeB}
 use Rattle.carry.specs.Stamp.{noFaultB, carryOf, carryingNumber}
 use Rattle.carry.specs.declared.stamp.Carried.{Carried}
 use Rattle.carry.specs.declared.stamp.Carried.the-variants.{To, TableNotSound, NotHeld, FaultAmong}
@@ -18,7 +16,7 @@ use Rattle.ramp.specs.Beast.{widestWindow, ageOf, withinB, judgeOf, carriedOr, 
 use Rattle.ramp.specs.declared.beast.Verdict.{Verdict}
 use Rattle.ramp.specs.declared.beast.Verdict.the-variants.{One, Two, WindowTooWide, LeftRefused, RightRefused}
 use Rattle.theorems_reports.specs.World.{World, newWorld, Call, runOf}
-use Rattle.theorems_stamps.specs.Stamps.{ranOf, loggedOf, carriedAfter, allHeldB, Carries, CarriedStamp}
+use Rattle.theorems_stamps.specs.Stamps.{ranOf, loggedOf, carriedAfter, allHeldB, Carries}
 use Rattle.theorems_stamps.proofs.StampLaws.{carried-stamp}
 use Rattle.theorems_ramp.specs.OneBeast.{refusalBy, apart, truthOf, truthAfter, OneBeast, ByCarrying, Between, BetweenReads}
 

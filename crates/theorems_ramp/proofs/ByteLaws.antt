@@ -1,26 +1,22 @@
 -- One beast or two over bytes, from the theorem Carried stamp over bytes.
 -- Assumes nothing.
-use mathlib.Core.Path.{_≡_, refl, sym, _∙_, ap, subst}
-use mathlib.Core.Bool.{Bool, true, false}
-use mathlib.Core.List.{List}
+use mathlib.Core.Path.{_≡_, refl, sym, _∙_, ap}
 use Prim.Native.Nat.{ℕ, zero, suc}
 use native.Mathlib.Omega.{arith}
 use borrow.Author.Tests.{ne-eqb}
 use lib.Dec.{eqb}
 use lib.IntN.{ℤ, pos, negsuc, _-ℤ_}
-use Rattle.octets.specs.Choice.{both}
 use Rattle.carry.specs.Stamp.{carryOf, carryingNumber}
 use Rattle.carry.specs.declared.stamp.Carried.{Carried}
 use Rattle.carry.specs.declared.stamp.Carried.the-variants.{To, TableNotSound, NotHeld, FaultAmong}
 use Rattle.ramp.specs.Beast.{beastBy, oneBeastOf}
-use Rattle.ramp.specs.declared.beast.Verdict.{Verdict}
 use Rattle.state_bytes.specs.Results.{refusal}
 use Rattle.tablet_bytes.specs.Calls.{CarriedTo, carrying, stampAfter, carryAt}
 use Rattle.ramp_bytes.specs.Calls.{resultOf, oneBeastAt}
 use Rattle.theorems_bytes.specs.World.{runAt}
-use Rattle.theorems_bytes.specs.Stamps.{zeroAt, baseRead, numberRead, ranAt, loggedAt, faultlessB, allHeldAt, CarriesAt}
+use Rattle.theorems_bytes.specs.Stamps.{zeroAt, baseRead, numberRead, loggedAt, faultlessB, allHeldAt, CarriesAt}
 use Rattle.theorems_bytes.proofs.StampLaws.{carried-stamp-at}
-use Rattle.theorems_ramp.specs.OneBeastAt.{Reader, Started, atRead, refusalAt, ranSince, OneBeastAt}
+use Rattle.theorems_ramp.specs.OneBeastAt.{Reader, Started, atRead, ranSince, OneBeastAt}
 use Rattle.theorems_ramp.proofs.BeastLaws.{SideIs, judged-is}
 
 -- what `dts_carry` answers says what carrying answered
@@ -62,13 +58,13 @@ side-at : (r : Reader) → CarriesAt (atRead r) (r .after) (r .then) (r .now) (p
     → SideIs (carriedOf r) (baseRead (runAt (atRead r) (r .after)) (r .now)) (ranSince r) (allHeldAt (atRead r) (r .after)) (faultlessB (loggedAt (atRead r) (r .after)))
 unfolding carryAt carryingNumber
 side-at r k = record {
-      exactly = sym (zero-is (carryingNumber (carriedOf r))) ∙ k .exactly;
-      difference = λ z e.
-          let n : refusal (carryingNumber (carriedOf r)) ≡ pos 0 = rw e in
-          ap (λ (c : Carried). pos (baseRead (runAt (atRead r) (r .after)) (r .now)) -ℤ stampAfter (pos 0) c) (sym e) ∙ k .difference n;
-      not-held = λ h. is-not-held (carriedOf r) (same-number _ 12 (ap (λ (x : CarriedTo). x .result) (k .not-held h)));
-      fault = λ h n. is-fault (carriedOf r) (same-number _ 13 (ap (λ (x : CarriedTo). x .result) (k .fault h n)));
-    }
+  exactly = sym (zero-is (carryingNumber (carriedOf r))) ∙ k .exactly;
+  difference = λ z e.
+      let n : refusal (carryingNumber (carriedOf r)) ≡ pos 0 = rw e in
+      ap (λ (c : Carried). pos (baseRead (runAt (atRead r) (r .after)) (r .now)) -ℤ stampAfter (pos 0) c) (sym e) ∙ k .difference n;
+  not-held = λ h. is-not-held (carriedOf r) (same-number _ 12 (ap (λ (x : CarriedTo). x .result) (k .not-held h)));
+  fault = λ h n. is-fault (carriedOf r) (same-number _ 13 (ap (λ (x : CarriedTo). x .result) (k .fault h n)));
+}
 
 carries-at : (r : Reader) → Started r → CarriesAt (atRead r) (r .after) (r .then) (r .now) (pos 0)
 carries-at r s = carried-stamp-at (r .state) (r .table) (r .before) (r .after) (r .then) (r .now) (pos 0) (s .state) (s .table) (s .then) (s .now) (s .few)

@@ -1,8 +1,8 @@
 -- Each wrong way to judge differs from what is true in a computed history; unsigned ages on an age below 0.
 -- Assumes nothing.
-use mathlib.Core.Path.{_≡_, refl, sym, _∙_, ap}
+use mathlib.Core.Path.{_≡_, refl, _∙_, ap}
 use mathlib.Core.Bool.{true, false}
-use mathlib.Core.List.{List, [], _∷_}
+use mathlib.Core.List.{[], _∷_}
 use Prim.Native.Nat.{ℕ, _+_, _<_}
 use native.Mathlib.Omega.{arith}
 use borrow.Author.Tests.{eq-eqb}
@@ -11,7 +11,6 @@ use lib.ListN.{length}
 use Rattle.octets.proofs.Tests.{clash}
 use Rattle.table.specs.Table.{sizeB}
 use Rattle.ramp.specs.Beast.{widestWindow, verdictOf, beastBy, oneBeastOf}
-use Rattle.ramp.specs.declared.beast.Seen.{Seen}
 use Rattle.ramp.specs.declared.beast.Verdict.{Verdict}
 use Rattle.ramp.specs.declared.beast.Verdict.the-variants.{One, Two, WindowTooWide, LeftRefused, RightRefused}
 use Rattle.theorems_reports.specs.World.{seconds}
@@ -97,11 +96,11 @@ uncarried-out = shut wrong.uncarried (storyLeft writable) (storyRight writable) 
 pub shut-out : ShutOut
 unfolding resultBy judgeWith oneBeastOf beastBy verdictOf wrong.unsigned number
 shut-out = record {
-      right = λ l lt r rt window. refl;
-      by-stamps = by-stamps-out;
-      stopping = stopping-out;
-      wider = wider-out;
-      right-first = right-first-out;
-      uncarried = uncarried-out;
-      unsigned = λ e. let n : _≡_ {A = ℕ} 1 2 = ap number e in omega arith;
-    }
+  right = λ l lt r rt window. refl;
+  by-stamps = by-stamps-out;
+  stopping = stopping-out;
+  wider = wider-out;
+  right-first = right-first-out;
+  uncarried = uncarried-out;
+  unsigned = λ e. let n : _≡_ {A = ℕ} 1 2 = ap number e in omega arith;
+}

@@ -38,13 +38,13 @@ pub record Result : Type 0 where
 unfoldable pub resultBy : Judging → History → History → ℕ → Result
 unfolding callsOpen laterOf movedBy carriedOver carriedFrom carryOf carryingNumber runOf ranIn ranOf loggedIn loggedOf noFaultB sameB updateValues faultValues valuesOf sameRecordsB allHeldB beastBy verdictOf carriedOr judgeOf withinB ageOf truthOf
 resultBy judge l r window = record {
-      leftStamp = atRead l .clock .time .base;
-      rightStamp = atRead r .clock .time .base;
-      leftRan = ranOf (atRead l) (l .after);
-      rightRan = ranOf (atRead r) (r .after);
-      verdict = verdictAfter judge (atRead l) (l .after) (atRead r) (r .after) window;
-      truth = truthAfter (atRead l) (l .after) (atRead r) (r .after) window;
-    }
+  leftStamp = atRead l .clock .time .base;
+  rightStamp = atRead r .clock .time .base;
+  leftRan = ranOf (atRead l) (l .after);
+  rightRan = ranOf (atRead r) (r .after);
+  verdict = verdictAfter judge (atRead l) (l .after) (atRead r) (r .after) window;
+  truth = truthAfter (atRead l) (l .after) (atRead r) (r .after) window;
+}
 
 -- The drivers' story: the left clock was set ten minutes fast; a beast passes it, and two seconds later, in the middle of the load, the tablet sets it
 -- back. The right antenna reads the beast five seconds after the left one. An hour later both are asked.

@@ -2,18 +2,17 @@
 -- clock runs backwards by itself, but the call's own equation does.
 use mathlib.Core.Path.{_≡_}
 use mathlib.Core.List.{List}
-use Prim.Native.Nat.{ℕ, _+_, _-_, _%_}
+use Prim.Native.Nat.{ℕ, _-_}
 use lib.Dec.{leb}
-use lib.IntN.{ℤ, pos, negsuc, natAbs, _-ℤ_}
+use lib.IntN.{ℤ, pos, negsuc, natAbs}
 use Rattle.octets.specs.Choice.{pick}
 use Rattle.table_write.specs.Start.{fresh}
 use Rattle.carry.specs.Stamp.{carryOf}
-use Rattle.carry.specs.declared.stamp.Carried.{Carried}
-use Rattle.ramp.specs.Beast.{widestWindow, ageOf, withinB, judgeOf, carriedOr, oneBeastOf}
+use Rattle.ramp.specs.Beast.{widestWindow, ageOf, judgeOf, carriedOr, oneBeastOf}
 use Rattle.ramp.specs.declared.beast.Seen.{Seen}
 use Rattle.ramp.specs.declared.beast.Verdict.{Verdict}
 use Rattle.ramp.specs.declared.beast.Verdict.the-variants.{One, Two, WindowTooWide, LeftRefused, RightRefused}
-use Rattle.theorems_ramp.specs.OneBeast.{Judging, OneBeast, OneBeastBelow}
+use Rattle.theorems_ramp.specs.OneBeast.{Judging, OneBeast}
 
 -- how two carried stamps are compared, with both clocks' Base_Time: right is by their ages
 abbrev pub Comparing : Type 0

@@ -1,4 +1,4 @@
--- The notes of both readers, and their logs as they were fetched.
+-- The notes and clocks of both readers, and their logs as they were fetched.
 -- Assumes nothing.
 use Rattle.loading_day.proofs.PageLaws.{evening-is}
 use borrow.Author.Needs.{needs}
@@ -18,7 +18,7 @@ returns : tie.Need-returns
 returns c =
     let f2 = c .before in
     let f1 = f2 .before in
-    let a = f1 .before .before .before .before .before .args in
+    let a = f1 .before .before .before .before .before .before .before .args in
     (evening-is (a .tags) (a .ramp) (c .page-of .ensures .0) (f1 .fetched .ensures) (f2 .fetched2 .ensures), c .page-of .ensures .1)
 
 pub evening-spec : {M : Type 1} → statement M

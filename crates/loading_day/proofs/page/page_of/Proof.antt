@@ -13,19 +13,20 @@ use Rattle.loading_day.proofs.page.page_of.Statement.{statement}
 use Rattle.loading_day.proofs.page.page_of.Tie as tie
 
 abbrev Inv-loop : tie.InvT-loop
-Inv-loop left-table right-table tags left right page₀ k₀ page k =
+Inv-loop left-base left-table right-base right-table tags left right page₀ k₀ page k =
     (k ≤ 8)
     × (page .len ≤ 96 + 96 * k)
-    × (pageText page ++ rest tags left right left-table right-table k ≡ pageText page₀ ++ linesOf tags left right left-table right-table)
+    × (pageText page ++ rest tags left left-base left-table right right-base right-table k
+    ≡ pageText page₀ ++ linesOf tags left left-base left-table right right-base right-table)
 
 abbrev μ-loop : tie.MeasureT-loop
-μ-loop left-table right-table tags left right page₀ k₀ page k = 8 - k
+μ-loop left-base left-table right-base right-table tags left right page₀ k₀ page k = 8 - k
 
 -- eight tags, and two notes for each
 record Eight (c : tie.Start Inv-loop μ-loop) : Type 0 where
   tags : length (c .args .t1) ≡ 8
   left : length (c .args .t2) ≡ 8
-  right : length (c .args .t3) ≡ 8
+  right : length (c .args .t5) ≡ 8
 
 eight : (c : tie.Start Inv-loop μ-loop) → Eight c
 eight c = record { tags = search needs; left = search needs; right = search needs }
@@ -46,32 +47,26 @@ loop-holds c = (
   refl,
 )
 
-mul-sight : tie.Need-mul-sight Inv-loop μ-loop
-mul-sight c = search needs
+mul-line-of : tie.Need-mul-line-of Inv-loop μ-loop
+mul-line-of c = search needs
 
-array-copy-out-sight : tie.Need-array-copy-out-sight Inv-loop μ-loop
-array-copy-out-sight c = search needs
+array-read-line-of : tie.Need-array-read-line-of Inv-loop μ-loop
+array-read-line-of c = search needs
 
-sight-requires : tie.Need-sight-requires Inv-loop μ-loop
-sight-requires c κs = search needs
+mul-line-of-2 : tie.Need-mul-line-of-2 Inv-loop μ-loop
+mul-line-of-2 c = search needs
 
-mul-sight-2 : tie.Need-mul-sight-2 Inv-loop μ-loop
-mul-sight-2 c = search needs
+array-copy-out-line-of : tie.Need-array-copy-out-line-of Inv-loop μ-loop
+array-copy-out-line-of c = search needs
 
-array-copy-out-sight-2 : tie.Need-array-copy-out-sight-2 Inv-loop μ-loop
-array-copy-out-sight-2 c = search needs
+mul-line-of-3 : tie.Need-mul-line-of-3 Inv-loop μ-loop
+mul-line-of-3 c = search needs
 
-sight-requires-2 : tie.Need-sight-requires-2 Inv-loop μ-loop
-sight-requires-2 c κs = search needs
+array-copy-out-line-of-2 : tie.Need-array-copy-out-line-of-2 Inv-loop μ-loop
+array-copy-out-line-of-2 c = search needs
 
-mul-tag-line : tie.Need-mul-tag-line Inv-loop μ-loop
-mul-tag-line c = search needs
-
-array-read-tag-line : tie.Need-array-read-tag-line Inv-loop μ-loop
-array-read-tag-line c = search needs
-
-tag-line-requires : tie.Need-tag-line-requires Inv-loop μ-loop
-tag-line-requires c κs = search needs
+line-of-requires : tie.Need-line-of-requires Inv-loop μ-loop
+line-of-requires c κs = search needs
 
 with-line-requires-2 : tie.Need-with-line-requires-2 Inv-loop μ-loop
 with-line-requires-2 c κs = search needs
@@ -84,20 +79,16 @@ loop-less c = search needs
 
 loop-again : tie.Need-loop-again Inv-loop μ-loop
 loop-again c =
-    let tl = c .before in
-    let s2 = tl .before in
-    let s1 = s2 .before .before in
-    let l = s1 .before .before .before in
+    let o = c .before in
+    let l = o .before .before .before .before in
     let st = l .before .before .before .before in
     let a = st .args in
     let listed = eight st in (
       omega arith,
       omega (arith, c .with-line2 .ensures .1),
-      line-more (a .t1) (a .t2) (a .t3) (a .left-table) (a .right-table) (l .loop .k) _ _ _ (pageText (l .loop .page))
+      line-more (a .t1) (a .t2) (a .left-base) (a .left-table) (a .t5) (a .right-base) (a .right-table) (l .loop .k) _ _ _ (pageText (l .loop .page))
           (c .with-line2 .ensures .0)
-          (tl .tag-line .ensures)
-          (s1 .sight .ensures)
-          (s2 .sight2 .ensures)
+          (o .line-of .ensures)
           (omega arith)
           (omega arith)
           (omega arith)
@@ -113,7 +104,7 @@ returns c =
     let a = b .before .args in
     let listed = eight (b .before) in (
       page-whole (pageText (l .loop .page)) _ (l .loop .inv .2)
-          (lines-end (a .t1) (a .t2) (a .t3) (a .left-table) (a .right-table) (l .loop .k) (omega arith))
+          (lines-end (a .t1) (a .t2) (a .left-base) (a .left-table) (a .t5) (a .right-base) (a .right-table) (l .loop .k) (omega arith))
           (w .with-line .ensures .0
           ∙ ap (λ (x : List ℕ). x ++ textOf (t .title-line .result)) (b .blank .ensures .0)
           ∙ t .title-line .ensures),
@@ -130,15 +121,13 @@ page-of-spec =
     title-line-requires
     with-line-requires
     loop-holds
-    mul-sight
-    array-copy-out-sight
-    sight-requires
-    mul-sight-2
-    array-copy-out-sight-2
-    sight-requires-2
-    mul-tag-line
-    array-read-tag-line
-    tag-line-requires
+    mul-line-of
+    array-read-line-of
+    mul-line-of-2
+    array-copy-out-line-of
+    mul-line-of-3
+    array-copy-out-line-of-2
+    line-of-requires
     with-line-requires-2
     add-k
     loop-less

@@ -3,7 +3,7 @@
 use mathlib.Core.Path.{_≡_, _∙_}
 use lib.IntN.{pos, _-ℤ_}
 use mir.Syntax.{w64}
-use mir.Val.{toZ, ofZ, SFits}
+use mir.Val.{toZ, ofZ}
 use mir.Facts.{toZ-ofZ, toZ-pos}
 use Rattle.ramp.specs.Beast.{ageOf}
 use Rattle.ramp.proofs.AgeLaws.{age-fits}

@@ -1,16 +1,14 @@
 -- The larger of two ages less the smaller: it fits, it is not below 0, and its size is that of the difference either way round.
 -- Assumes nothing.
-use mathlib.Core.Path.{_≡_, _∙_, sym, ap}
+use mathlib.Core.Path.{_≡_, _∙_, ap}
 use mathlib.Core.Bool.{true, false}
 use lib.Dec.{T}
 use lib.IntN.{ℤ, natAbs, _-ℤ_}
-use lib.Signed.{ltZ, nonNeg}
+use lib.Signed.{ltZ}
 use mir.Syntax.{w64}
 use mir.Val.{toZ, ofZ, SFits, Fits}
 use mir.Facts.{toZ-ofZ, fits-natAbs}
 use Rattle.ramp.proofs.AgeLaws.{apart-fits, apart-swap, up, down}
-use borrow.Author.Needs.{needs}
-use native.Mathlib.Omega.{arith}
 use Rattle.ramp.proofs.beast.apart.Statement.{statement}
 use Rattle.ramp.proofs.beast.apart.Tie as tie
 

@@ -6,7 +6,6 @@ use lib.IntN.{natAbs, _-ℤ_}
 use mir.Facts.{toZ-ofZ}
 use Rattle.ramp.specs.Beast.{withinB, judgeOf}
 use borrow.Author.Needs.{needs}
-use native.Mathlib.Omega.{arith}
 use Rattle.ramp.proofs.beast.judge.Statement.{statement}
 use Rattle.ramp.proofs.beast.judge.Tie as tie
 

@@ -1,6 +1,6 @@
 -- The window first; then what carrying answers on both sides, which its own promise says is small.
 -- Assumes nothing.
-use mathlib.Core.Path.{_≡_, sym, ap, _∙_}
+use mathlib.Core.Path.{sym, _∙_}
 use Rattle.carry.proofs.CarryLaws.{bounded}
 use Rattle.ramp.specs.Beast.{Sized}
 use Rattle.ramp.proofs.BeastLaws.{too-wide, narrow}

@@ -1,11 +1,10 @@
 -- The later update's number and its part.
 -- Assumes nothing.
-use mathlib.Core.Path.{_≡_, sym, ap, _∙_}
+use mathlib.Core.Path.{_∙_}
 use mir.Syntax.{w32}
 use mir.Facts.{toZ-ofZ}
-use Rattle.ramp_bytes.specs.Calls.{placed, newestUpdateAt}
+use Rattle.ramp_bytes.specs.Calls.{newestUpdateAt}
 use borrow.Author.Needs.{needs}
-use native.Mathlib.Omega.{arith}
 use Rattle.ramp_bytes.proofs.calls.newest_update_at.Statement.{statement}
 use Rattle.ramp_bytes.proofs.calls.newest_update_at.Tie as tie
 

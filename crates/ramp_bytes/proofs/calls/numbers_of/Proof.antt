@@ -1,10 +1,8 @@
 -- A record's place and length, both below 65,536.
 -- Assumes nothing.
-use mathlib.Core.Path.{_≡_, ap}
-use mathlib.Core.List.{List}
-use Prim.Native.Nat.{ℕ, _<_}
+use mathlib.Core.Path.{ap}
+use Prim.Native.Nat.{_<_}
 use lib.ListN.{length}
-use Rattle.table_look.specs.Part.{placeAt, partAt}
 use Rattle.table_look.proofs.LookLaws.{part-small}
 use borrow.Author.Needs.{needs}
 use native.Mathlib.Omega.{arith}

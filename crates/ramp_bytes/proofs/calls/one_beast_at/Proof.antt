@@ -1,11 +1,10 @@
 -- The verdict's side and its result.
 -- Assumes nothing.
-use mathlib.Core.Path.{_≡_, sym, ap, _∙_}
+use mathlib.Core.Path.{ap, _∙_}
 use mir.Syntax.{w32}
 use mir.Facts.{toZ-ofZ}
 use Rattle.ramp_bytes.specs.Calls.{oneBeastAt, resultOf}
 use borrow.Author.Needs.{needs}
-use native.Mathlib.Omega.{arith}
 use Rattle.ramp_bytes.proofs.calls.one_beast_at.Statement.{statement}
 use Rattle.ramp_bytes.proofs.calls.one_beast_at.Tie as tie
 

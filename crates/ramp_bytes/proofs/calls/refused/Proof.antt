@@ -3,7 +3,7 @@
 use mathlib.Core.Path.{_≡_, _∙_}
 use lib.IntN.{ℤ, pos, negℤ, _-ℤ_, +ℤ-idl}
 use mir.Syntax.{w32}
-use mir.Val.{toZ, SFits}
+use mir.Val.{toZ}
 use mir.Facts.{toZ-ofZ, toZ-pos}
 use Rattle.carry.proofs.IntLaws.{size-difference, fits}
 use borrow.Author.Needs.{needs}

@@ -1,11 +1,10 @@
 -- Each verdict's result, by `verdictResult`.
 -- Assumes nothing.
-use mathlib.Core.Path.{_≡_, sym, ap, _∙_}
+use mathlib.Core.Path.{sym, ap, _∙_}
 use mir.Facts.{toZ-ofZ}
 use Rattle.ramp.specs.Beast.{verdictNumber}
 use Rattle.ramp_bytes.specs.Calls.{verdictResult}
 use borrow.Author.Needs.{needs}
-use native.Mathlib.Omega.{arith}
 use Rattle.ramp_bytes.proofs.calls.result.Statement.{statement}
 use Rattle.ramp_bytes.proofs.calls.result.Tie as tie
 

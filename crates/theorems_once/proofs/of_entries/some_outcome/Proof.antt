@@ -16,6 +16,7 @@ use Rattle.server_bytes.specs.Calls.{Called, called, faultAt, dtcpAt, racpAt, n
 use Rattle.server_bytes.specs.ValuesRead.{deviceTimeAt, featureAt, parametersAt}
 use Rattle.salvage_bytes.specs.Calls.{salvageAt}
 use Rattle.tablet_bytes.specs.Calls.{joinAt, readAt, keepAt, carryAt}
+use Rattle.ramp_bytes.specs.Calls.{oneBeastAt, newestUpdateAt}
 use Rattle.firmware.specs.Errors.{attErrorAt}
 use Rattle.theorems_once.proofs.of_entries.some_outcome.Statement.{statement}
 use Rattle.theorems_once.proofs.of_entries.some_outcome.Tie as tie
@@ -89,6 +90,13 @@ returns c =
       salvage = λ κs a.
           let w = salvageAt (a .0 .now) (a .1 .0 .now) (a .1 .1 .0 .now) in
           record { result = w .result; lasts = (tt, (w .table, (w .report, tt))); meets = refl };
+      one-beast = λ κs a.
+          let b = a .1 .1 .1 .1 in
+          let w = oneBeastAt (a .0 .now) (a .1 .0) (a .1 .1 .0) (a .1 .1 .1 .0) (b .0 .now) (b .1 .0) (b .1 .1 .0) (b .1 .1 .1 .0) (b .1 .1 .1 .1 .0) in
+          record { result = w .result; lasts = (tt, (tt, (tt, (tt, (tt, (tt, (tt, (tt, (tt, (w .side, tt)))))))))); meets = refl };
+      newest-update = λ κs a.
+          let w = newestUpdateAt (a .0 .now) (a .1 .0 .now) in
+          record { result = w .result; lasts = (tt, (tt, (w .part, tt))); meets = refl };
       att-error = λ κs a. record { result = attErrorAt (a .0); lasts = (tt, tt); meets = refl };
     }
 

@@ -41,6 +41,7 @@ returns c =
       played = (λ κs a. tt, λ κs a x y u v h p q. (p ∙ sym q, refl));
       fetched = (λ κs a. tt, λ κs a x y u v h p q. (p ∙ sym q, refl));
       sight = (λ κs a. tt, λ κs a x y u v h p q. (p ∙ sym q, refl));
+      ruling = (λ κs a. tt, λ κs a x y u v h p q. (p ∙ sym q, refl));
     }
 
 pub one-outcome-spec : {M : Type 1} → statement M
