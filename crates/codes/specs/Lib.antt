@@ -1,3 +1,4 @@
+pub mod Att
 pub mod Dtcp
 pub mod Racp
 pub mod Response

@@ -10,6 +10,7 @@ use lib.IntN.{ℤ, negsuc, pos-ne-negsuc}
 use lib.ListN.{length, replicate}
 use Rattle.octets.specs.Choice.{pick}
 use Rattle.octets.proofs.Tests.{false-by}
+use Rattle.codes.specs.Att.{attErrorAt}
 use Rattle.record_read.specs.Reading.{readOf}
 use Rattle.record_read.specs.Reading as wellFormed
 use Rattle.record.specs.declared.kinds.Reading.{Reading}
@@ -61,7 +62,6 @@ use Rattle.server_bytes.specs.Events.{eventful, onB, secondsAt, switchesAt, dis
 use Rattle.server_bytes.specs.Calls.{Called, called, replied, notified, faultAt, dtcpAt, racpAt, notifyAt}
 use Rattle.server_bytes.specs.ValuesRead.{answeredBytes, deviceTimeAt, featureAt, parametersAt}
 use Rattle.tablet_bytes.specs.Calls.{JoinedBytes, joinResult, joined, joinedBytes, joinAt, readAt, numbersAfter, keepAt, carryAt, stampAfter}
-use Rattle.firmware.specs.Errors.{attErrorAt}
 use Rattle.theorems_entry.specs.Theorems.{RefusedUnchanged, Composes, Errors}
 use Rattle.server_bytes.proofs.ResultLaws.{result-done}
 

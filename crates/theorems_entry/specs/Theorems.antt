@@ -7,6 +7,7 @@ use lib.Dec.{eqb}
 use lib.IntN.{ℤ, pos, negsuc}
 use lib.ListN.{length, replicate}
 use Rattle.octets.specs.Choice.{pick}
+use Rattle.codes.specs.Att.{attErrorAt}
 use Rattle.table.specs.Table.{soundB}
 use Rattle.clock.specs.Answers.{numberOf, attErrorOf}
 use Rattle.clock.specs.Events.{secondsOf, switchesOf, disconnectOf}
@@ -32,7 +33,6 @@ use Rattle.server_bytes.specs.Events.{eventful, onB, secondsAt, switchesAt, dis
 use Rattle.server_bytes.specs.Calls.{Called, called, replied, notified, faultAt, dtcpAt, racpAt, notifyAt}
 use Rattle.server_bytes.specs.ValuesRead.{shown, answeredBytes, deviceTimeAt, featureAt, parametersAt}
 use Rattle.tablet_bytes.specs.Calls.{joinedBytes, joinAt, readAt, keepAt, carryAt}
-use Rattle.firmware.specs.Errors.{attErrorAt}
 
 -- "A refusal leaves state, log and output untouched": where the result is below 0, all that is lent is as it was; "10 empties the joining
 -- state": every byte of it is 0.

@@ -43,6 +43,8 @@ use Rattle.update_decide.proofs.accept.update_record.Kinds as update-record-kin
 use Rattle.update_decide.proofs.accept.update_record.Reads as update-record-reads
 use Rattle.update_decide.proofs.response.response_of.Kinds as response-of-kinds
 use Rattle.update_decide.proofs.response.response_of.Reads as response-of-reads
+use Rattle.codes.proofs.att.att_error.Kinds as att-error-kinds
+use Rattle.codes.proofs.att.att_error.Reads as att-error-reads
 use Rattle.codes.proofs.response.code_of.Kinds as code-of-kinds
 use Rattle.codes.proofs.response.code_of.Reads as code-of-reads
 use Rattle.racp_request.proofs.request.opcode_in.Kinds as opcode-in-kinds
@@ -78,6 +80,7 @@ pub record OneOutcome : Type 0 where
   pub is-logged : Only is-logged-kinds.ps is-logged-kinds.r is-logged-reads.Pre is-logged-reads.Post
   pub update-record : Only update-record-kinds.ps update-record-kinds.r update-record-reads.Pre update-record-reads.Post
   pub response-of : Only response-of-kinds.ps response-of-kinds.r response-of-reads.Pre response-of-reads.Post
+  pub att-error : Only att-error-kinds.ps att-error-kinds.r att-error-reads.Pre att-error-reads.Post
   pub code-of : Only code-of-kinds.ps code-of-kinds.r code-of-reads.Pre code-of-reads.Post
   pub opcode-in : Only opcode-in-kinds.ps opcode-in-kinds.r opcode-in-reads.Pre opcode-in-reads.Post
   pub request-of : Only request-of-kinds.ps request-of-kinds.r request-of-reads.Pre request-of-reads.Post

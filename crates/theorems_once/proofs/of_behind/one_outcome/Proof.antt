@@ -28,6 +28,7 @@ returns c =
       is-logged = λ κs a x y u v h p q. (p ∙ sym q, refl);
       update-record = λ κs a x y u v h p q. (p ∙ sym q, refl);
       response-of = λ κs a x y u v h p q. (p ∙ sym q, refl);
+      att-error = λ κs a x y u v h p q. (p ∙ sym q, refl);
       code-of = λ κs a x y u v h p q. (p ∙ sym q, refl);
       opcode-in = λ κs a x y u v h p q. (p ∙ sym q, refl);
       request-of = λ κs a x y u v h p q. (p ∙ sym q, refl);

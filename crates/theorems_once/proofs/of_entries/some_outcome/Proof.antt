@@ -5,6 +5,7 @@ use mathlib.Core.Bool.{Bool, true, false}
 use mathlib.Core.List.{List}
 use Prim.Native.Nat.{ℕ}
 use Rattle.octets.specs.Choice.{pick}
+use Rattle.codes.specs.Att.{attErrorAt}
 use Rattle.rows.specs.Reply.{doneB, refused, answered}
 use Rattle.rows.specs.Rows.{firstFailed}
 use Rattle.racp_request.specs.Request.{opcodeIn, requestOf}
@@ -17,7 +18,6 @@ use Rattle.server_bytes.specs.ValuesRead.{deviceTimeAt, featureAt, parametersAt
 use Rattle.salvage_bytes.specs.Calls.{salvageAt}
 use Rattle.tablet_bytes.specs.Calls.{joinAt, readAt, keepAt, carryAt}
 use Rattle.ramp_bytes.specs.Calls.{oneBeastAt, newestUpdateAt}
-use Rattle.firmware.specs.Errors.{attErrorAt}
 use Rattle.theorems_once.proofs.of_entries.some_outcome.Statement.{statement}
 use Rattle.theorems_once.proofs.of_entries.some_outcome.Tie as tie
 

@@ -1,9 +1,9 @@
 -- By the number, one at a time.
 -- Assumes nothing.
 use borrow.Author.Tests.{ne-eqb}
-use Rattle.firmware.specs.Errors.{attErrorAt}
-use Rattle.firmware.proofs.errors.dts_att_error.Statement.{statement}
-use Rattle.firmware.proofs.errors.dts_att_error.Tie as tie
+use Rattle.codes.specs.Att.{attErrorAt}
+use Rattle.codes.proofs.att.att_error.Statement.{statement}
+use Rattle.codes.proofs.att.att_error.Tie as tie
 
 returns : tie.Need-returns
 unfolding attErrorAt
@@ -23,5 +23,5 @@ returns-4 c =
     let none = c .match .rest in
     simp (ne-eqb _ 4 (none .0 .0 .1), ne-eqb _ 5 (none .0 .1), ne-eqb _ 6 (none .1))
 
-pub dts-att-error-spec : {M : Type 1} → statement M
-dts-att-error-spec = tie.close (tie.spec returns returns-2 returns-3 returns-4)
+pub att-error-spec : {M : Type 1} → statement M
+att-error-spec = tie.close (tie.spec returns returns-2 returns-3 returns-4)
