@@ -1,3 +1,1 @@
 pub mod StateLaws
-pub mod JoiningLaws
-pub mod RoundTrip

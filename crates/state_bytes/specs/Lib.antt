@@ -1,4 +1,3 @@
 pub mod Results
 pub mod State
 pub mod JoiningState
-pub mod Theorems

@@ -54,7 +54,7 @@ use Rattle.racp_request.proofs.RequestLaws.{report-reads}
 use Rattle.racp_access.specs.Report.{firstNumber, leftAt, leftFrom}
 use Rattle.racp_access.specs.Access.{accessRows, accessed, begunOf, abortedOf, accessedOf}
 use Rattle.racp_notify.specs.Notify.{notifyRows, lastB, leftAfter, saidOf, unsaid, noticed, runningNotice, notifyOf}
-use Rattle.state_bytes.specs.Theorems.{FilterFits, LeftFits, RunningFits, Fits}
+use Rattle.state_images.specs.Theorems.{FilterFits, LeftFits, RunningFits, Fits}
 use Rattle.theorems_reports.specs.World.{World, newWorld, Call, seconds, switches, disconnect, fault, timeUpdate, recordAccess, notify, stepBy, stepOf, runOf}
 use Rattle.theorems_reports.specs.Reach.{Good}
 use Rattle.theorems_reports.proofs.ReachLaws.{call-good}

@@ -34,8 +34,8 @@ use Rattle.racp_notify.specs.Notify.{Notice, notifyOf}
 use Rattle.theorems_calls.specs.OfTransfer.{Silent}
 use Rattle.theorems_calls.proofs.AnswerLaws as transfer
 use Rattle.state_bytes.specs.State.{stateBytes, imageOf, imageB}
-use Rattle.state_bytes.specs.Theorems.{Fits}
-use Rattle.state_bytes.proofs.RoundTrip.{state-images}
+use Rattle.state_images.specs.Theorems.{Fits}
+use Rattle.state_images.proofs.RoundTrip.{state-images}
 use Rattle.server_bytes.specs.Results.{resultOf, stateAfter, closingLength, settledOf}
 use Rattle.server_bytes.specs.Start.{startAt}
 use Rattle.server_bytes.specs.Events.{eventful, onB}

@@ -33,8 +33,8 @@ use Rattle.joining.specs.declared.joining.Joining.{Joining}
 use Rattle.joining.proofs.JoiningLaws.{Joins, refuses, goes-on, ends, join-is, empty-bytes}
 use Rattle.theorems_calls.proofs.JoinedLaws.{keeps-ranges}
 use Rattle.state_bytes.specs.JoiningState.{joiningBytes, joiningImage}
-use Rattle.state_bytes.proofs.JoiningLaws.{joining-images}
 use Rattle.state_bytes.specs.Results.{refusal}
+use Rattle.state_images.proofs.JoiningLaws.{joining-images}
 use Rattle.server_bytes.specs.Results.{resultOf, closingLength}
 use Rattle.server_bytes.specs.Calls.{Called}
 use Rattle.tablet_bytes.specs.Calls.{JoinedBytes, joinResult, ReadNumbers, reading, numbersAfter, readAt}

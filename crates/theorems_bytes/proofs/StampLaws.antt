@@ -41,8 +41,8 @@ use Rattle.carry.specs.declared.stamp.Carried.{Carried}
 use Rattle.carry.specs.declared.stamp.Carried.the-variants.{To, NotHeld, FaultAmong}
 use Rattle.carry.specs.declared.stamp.Carried.the-variants as carrieds
 use Rattle.state_bytes.specs.State.{stateBytes, imageOf, clockOf}
-use Rattle.state_bytes.proofs.RoundTrip.{state-images}
 use Rattle.state_bytes.specs.Results.{refusal}
+use Rattle.state_images.proofs.RoundTrip.{state-images}
 use Rattle.server_bytes.specs.Results.{resultOf}
 use Rattle.server_bytes.specs.Calls.{Called}
 use Rattle.server_bytes.specs.ValuesRead.{Shown, shown, deviceTimeAt}

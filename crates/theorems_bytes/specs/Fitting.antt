@@ -9,7 +9,7 @@ use Rattle.table.specs.Table.{sizeB}
 use Rattle.clock.specs.State.{newReader}
 use Rattle.clock.specs.declared.state.Clock.{Clock}
 use Rattle.state_bytes.specs.State.{imageOf}
-use Rattle.state_bytes.specs.Theorems.{RunningFits, Fits}
+use Rattle.state_images.specs.Theorems.{RunningFits, Fits}
 use Rattle.theorems_reports.specs.World.{World, newWorld, Call, seconds, switches, disconnect, fault, timeUpdate, recordAccess, notify, stepOf, runOf}
 use Rattle.theorems_reports.specs.Reach.{Good}
 

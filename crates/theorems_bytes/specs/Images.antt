@@ -8,7 +8,7 @@ use lib.ListN.{length}
 use Rattle.octets.specs.Parts.{Bytes}
 use Rattle.table.specs.Table.{sizeB}
 use Rattle.state_bytes.specs.State.{stateBytes, imageB}
-use Rattle.state_bytes.specs.Theorems.{Fits}
+use Rattle.state_images.specs.Theorems.{Fits}
 use Rattle.server_bytes.specs.Start.{startAt}
 use Rattle.theorems_reports.specs.World.{World, newWorld, runOf}
 use Rattle.theorems_reports.specs.Reach.{Good}

@@ -28,7 +28,7 @@ use Rattle.carry.specs.declared.stamp.Carried.{Carried}
 use Rattle.state_bytes.specs.Results.{refusal}
 use Rattle.state_bytes.specs.State.{stateBytes}
 use Rattle.state_bytes.specs.JoiningState.{joiningImage}
-use Rattle.state_bytes.proofs.JoiningLaws.{joining-images}
+use Rattle.state_images.proofs.JoiningLaws.{joining-images}
 use Rattle.server_bytes.specs.Start.{startAt}
 use Rattle.tablet_bytes.specs.Calls.{JoinedBytes, joinResult, keepAt, carrying, stampAfter, carryAt}
 use Rattle.theorems_calls.proofs.JoinedLaws.{keeps-ranges}

@@ -52,10 +52,10 @@ use Rattle.carry.specs.declared.stamp.Carried.the-variants.{To, NotHeld, FaultA
 use Rattle.carry.specs.declared.stamp.Carried.the-variants as carrieds
 use Rattle.state_bytes.specs.State.{imageOf, clockOf}
 use Rattle.state_bytes.specs.JoiningState.{joiningBytes, joiningImage, joiningIn}
-use Rattle.state_bytes.specs.Theorems.{Fits}
-use Rattle.state_bytes.proofs.RoundTrip.{state-images}
-use Rattle.state_bytes.proofs.JoiningLaws.{joining-images}
 use Rattle.state_bytes.specs.Results.{refusal}
+use Rattle.state_images.specs.Theorems.{Fits}
+use Rattle.state_images.proofs.RoundTrip.{state-images}
+use Rattle.state_images.proofs.JoiningLaws.{joining-images}
 use Rattle.server_bytes.specs.Results.{resultOf, stateAfter, Ran, ran, settledOf}
 use Rattle.server_bytes.specs.Start.{StartedBytes, startedBytes, shortOf, begunAt, startAt}
 use Rattle.server_bytes.specs.Events.{eventful, onB, secondsAt, switchesAt, disconnectAt}

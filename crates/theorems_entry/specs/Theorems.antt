@@ -25,8 +25,8 @@ use Rattle.joining.specs.Joining.{joinOf}
 use Rattle.joining.specs.declared.joining.Joining.{Joining}
 use Rattle.state_bytes.specs.State.{stateBytes, imageOf, clockIn, imageB}
 use Rattle.state_bytes.specs.JoiningState.{joiningImage}
-use Rattle.state_bytes.specs.Theorems.{Fits}
 use Rattle.state_bytes.specs.Results.{refusal}
+use Rattle.state_images.specs.Theorems.{Fits}
 use Rattle.server_bytes.specs.Results.{ran}
 use Rattle.server_bytes.specs.Start.{startedBytes, shortOf, begunAt, startAt}
 use Rattle.server_bytes.specs.Events.{eventful, onB, secondsAt, switchesAt, disconnectAt}

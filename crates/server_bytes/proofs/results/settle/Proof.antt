@@ -4,7 +4,7 @@ use mathlib.Core.Path.{sym, ap, _∙_}
 use borrow.Author.Tests.{not-true, not-false}
 use lib.ListN.{length}
 use mir.Facts.{toZ-ofZ}
-use Rattle.state_bytes.proofs.RoundTrip.{state-images}
+use Rattle.state_images.proofs.RoundTrip.{state-images}
 use Rattle.server_bytes.proofs.ResultLaws.{settled-refused, settled-done}
 use borrow.Author.Needs.{needs}
 use Rattle.server_bytes.proofs.results.settle.Statement.{statement}

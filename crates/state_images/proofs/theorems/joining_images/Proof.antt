@@ -1,8 +1,8 @@
 -- A joining state and its image of 48 bytes stand for each other.
 -- Assumes nothing.
-use Rattle.state_bytes.proofs.JoiningLaws.{joining-images}
-use Rattle.state_bytes.proofs.theorems.joining_images.Statement.{statement}
-use Rattle.state_bytes.proofs.theorems.joining_images.Tie as tie
+use Rattle.state_images.proofs.JoiningLaws.{joining-images}
+use Rattle.state_images.proofs.theorems.joining_images.Statement.{statement}
+use Rattle.state_images.proofs.theorems.joining_images.Tie as tie
 
 returns : tie.Need-returns
 returns c = joining-images

@@ -8,8 +8,8 @@ use lib.ListN.{length}
 use lib.Seq.{drop-cons}
 use Rattle.octets.specs.Numbers.{at}
 use Rattle.joining.specs.Joining.{emptyJoining}
 use Rattle.state_bytes.specs.JoiningState.{joiningBytes, joiningImage, joiningIn}
-use Rattle.state_bytes.specs.Theorems.{JoiningImages}
+use Rattle.state_images.specs.Theorems.{JoiningImages}
 
 written-back : (s : List ℕ) → length s ≡ joiningBytes → joiningImage (joiningIn s) ≡ s
 unfolding joiningImage joiningIn

@@ -18,10 +18,10 @@ use Rattle.clock.specs.declared.state.Running.{Running}
 use Rattle.clock.specs.declared.state.Running.the-variants.{Idle, Reporting}
 use Rattle.clock.proofs.RuleLaws.{clock-reads, running-reads}
 use Rattle.octets.specs.Parts.{sameB}
 use Rattle.state_bytes.specs.State.{stateBytes, switchesOf, boundsOf, unsentOf, fieldsOf, fieldBytes, imageOf, filterIn, leftIn, runningIn, clockIn, imageB}
-use Rattle.state_bytes.specs.Theorems.{FilterFits, LeftFits, RunningFits, Fits, StateImages}
+use Rattle.state_images.specs.Theorems.{FilterFits, LeftFits, RunningFits, Fits, StateImages}
 use Rattle.octets.proofs.SameLaws.{same-makes}
 use Rattle.state_bytes.proofs.StateLaws.{of-image, image-back, no-image}
 
 -- a number's two bytes joined again
 abbrev joined : ℕ → ℕ

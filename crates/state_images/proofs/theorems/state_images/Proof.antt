@@ -1,8 +1,8 @@
 -- A clock that obeys its rules and its image stand for each other.
 -- Assumes nothing.
-use Rattle.state_bytes.proofs.RoundTrip.{state-images}
-use Rattle.state_bytes.proofs.theorems.state_images.Statement.{statement}
-use Rattle.state_bytes.proofs.theorems.state_images.Tie as tie
+use Rattle.state_images.proofs.RoundTrip.{state-images}
+use Rattle.state_images.proofs.theorems.state_images.Statement.{statement}
+use Rattle.state_images.proofs.theorems.state_images.Tie as tie
 
 returns : tie.Need-returns
 returns c = state-images

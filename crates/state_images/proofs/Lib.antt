@@ -1,0 +1,2 @@
+pub mod JoiningLaws
+pub mod RoundTrip
