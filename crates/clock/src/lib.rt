@@ -4,4 +4,3 @@ pub mod answers;
 pub mod events;
 pub mod obeys;
 pub mod state;
-pub mod theorems;

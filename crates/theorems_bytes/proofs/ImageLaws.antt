@@ -17,11 +17,11 @@ use Rattle.table.proofs.HeadLaws.{size-reads, sound-head}
 use Rattle.table_write.specs.Start.{startOf}
 use Rattle.clock.specs.Answers.{numberOf}
 use Rattle.clock.specs.Events.{secondsOf, switchesOf, disconnectOf}
-use Rattle.clock.specs.Theorems as clocks
+use Rattle.theorems_clock.specs.Theorems as clocks
 use Rattle.clock.specs.declared.answers.Answer.{Answer}
 use Rattle.clock.specs.declared.events.Event.{Event}
 use Rattle.clock.specs.declared.state.Clock.{Clock}
-use Rattle.clock.proofs.PromiseLaws as clockLaws
+use Rattle.theorems_clock.proofs.PromiseLaws as clockLaws
 use Rattle.rows.specs.Reply.{Outcome, doneB}
 use Rattle.update.specs.Fault.{faultOf}
 use Rattle.update.specs.Theorems.{Untouched}

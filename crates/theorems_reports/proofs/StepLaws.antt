@@ -18,7 +18,7 @@ use Rattle.clock.specs.Events.{withBase, disconnected}
 use Rattle.clock.specs.declared.events.Event.{Event}
 use Rattle.clock.specs.declared.state.Clock.{Clock}
 use Rattle.clock.proofs.EventLaws.{Seconds, refuses-2, refuses-7, rises, Changed, changes, seconds-is, switches-is, disconnect-done}
-use Rattle.clock.proofs.PromiseLaws.{obeys}
+use Rattle.theorems_clock.proofs.PromiseLaws.{obeys}
 use Rattle.update.specs.Fault.{faultedOf}
 use Rattle.rows.specs.Reply.{Outcome, doneB, answered}
 use Rattle.rows.specs.Rows.{firstFailed, idleB, tableRows}

@@ -4,17 +4,17 @@ use mathlib.Core.Path.{_≡_, refl}
 use mathlib.Core.Bool.{true}
 use Prim.Native.Nat.{ℕ, _+_}
 use native.Mathlib.Omega.{arith}
-use Rattle.clock.specs.Answers.{numberOf}
-use Rattle.clock.specs.State.{newReader}
 use Rattle.rules.specs.Fields.{baseB, zoneB, dstB, sourceB, statusB, bitsB}
-use Rattle.clock.specs.Obeys.{runningB, timeB, clockB}
-use Rattle.clock.specs.Events.{withBase, onOff}
-use Rattle.clock.specs.Theorems.{Untouched, RefusedUnchanged, Obeys, Ticks}
-use Rattle.clock.specs.declared.events.Event.{Event}
-use Rattle.clock.specs.declared.state.Clock.{Clock}
 use Rattle.rules.proofs.RangeLaws.{base-makes}
+use Rattle.clock.specs.Answers.{numberOf}
+use Rattle.clock.specs.State.{newReader}
+use Rattle.clock.specs.Obeys.{runningB, timeB, clockB}
+use Rattle.clock.specs.Events.{withBase, onOff}
+use Rattle.clock.specs.declared.events.Event.{Event}
+use Rattle.clock.specs.declared.state.Clock.{Clock}
 use Rattle.clock.proofs.RuleLaws.{clock-reads}
 use Rattle.clock.proofs.EventLaws.{Seconds, refuses-2, refuses-7, rises, Changed, changes, seconds-is, switches-is, disconnect-is, with-base-obeys, with-switches-obeys, disconnected-obeys}
+use Rattle.theorems_clock.specs.Theorems.{Untouched, RefusedUnchanged, Obeys, Ticks}
 
 seconds-untouched : {c : Clock} {n : ℕ} {e : Event} → Seconds c n e → Untouched c e
 unfolding numberOf

@@ -4,17 +4,17 @@ use mathlib.Core.Path.{_≡_}
 use mathlib.Core.Bool.{Bool, true, false}
 use mathlib.Core.List.{List, [], _∷_, map}
 use Prim.Native.Nat.{ℕ}
+use Rattle.rules.specs.Fields.{baseB, zoneB, dstB, sourceB, statusB, bitsB}
 use Rattle.filter.specs.declared.filter.Filter.{Filter}
 use Rattle.filter.specs.declared.filter.Filter.the-variants.{All, Range}
 use Rattle.clock.specs.Answers.{numberOf}
-use Rattle.rules.specs.Fields.{baseB, zoneB, dstB, sourceB, statusB, bitsB}
 use Rattle.clock.specs.Obeys.{opcodeB, counterB, reportB, runningB, timeB, clockB}
 use Rattle.clock.specs.Events.{unlessBroken, withBase, onOff, disconnected, secondsOf, switchesOf, disconnectOf}
 use Rattle.clock.specs.declared.events.Event.{Event}
 use Rattle.clock.specs.declared.state.Clock.{Clock}
 use Rattle.clock.specs.declared.state.Left.the-variants.{From}
 use Rattle.clock.specs.declared.state.Running.{Running}
 use Rattle.clock.specs.declared.state.Running.the-variants.{Idle, Reporting}
 
 pub data Call : Type 0 where
   seconds : ℕ → Call
