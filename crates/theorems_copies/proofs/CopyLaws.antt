@@ -24,9 +24,9 @@ use Rattle.table.proofs.HeadLaws.{sound-head, sound-reads}
 use Rattle.table.proofs.SlotLaws.{first-small}
 use Rattle.table_write.specs.Start.{fresh}
 use Rattle.table_write.specs.Append.{newest}
-use Rattle.table_write.proofs.StartLaws.{starts}
 use Rattle.table_write.proofs.HistoryLaws.{length-held}
 use Rattle.table_write.proofs.SoundLaws.{length-ring}
+use Rattle.table_history.proofs.StartLaws.{starts}
 use Rattle.table_look.specs.Matching.{matchingFrom, matching}
 use Rattle.table_look.proofs.LookLaws.{drop-map}
 use Rattle.table_look.proofs.NumberLaws.{by-number}
