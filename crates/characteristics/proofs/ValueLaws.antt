@@ -16,7 +16,7 @@ use Rattle.clock.specs.declared.answers.Answer.the-variants.{Done, OutputShort}
 use Rattle.clock.specs.declared.state.Clock.{Clock}
 use Rattle.rows.specs.Reply.{Outcome, doneB, refused, answered}
 use Rattle.rows.specs.Rows.{firstFailed, tableRows}
-use Rattle.update.specs.Theorems.{Untouched}
+use Rattle.update_logged.specs.Theorems.{Untouched}
 use Rattle.characteristics.specs.Value.{deviceTimeBytes, deviceTimeOf, Told, told, value, toldOf, featureOf, parametersOf}
 use Rattle.characteristics.specs.Theorems.{RefusedUnchanged}
 

@@ -5,7 +5,7 @@ use mathlib.Core.List.{List}
 use Prim.Native.Nat.{ℕ}
 use Rattle.clock.specs.declared.state.Clock.{Clock}
 use Rattle.rows.specs.Reply.{doneB}
-use Rattle.update.specs.Theorems.{Untouched}
+use Rattle.update_logged.specs.Theorems.{Untouched}
 use Rattle.characteristics.specs.Value.{deviceTimeOf, featureOf, parametersOf}
 
 -- "A refusal leaves state, log and output untouched"; reading Device Time leaves clock and table as they were in any case.

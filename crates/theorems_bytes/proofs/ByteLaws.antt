@@ -41,9 +41,9 @@ use Rattle.rows.specs.Reply.{doneB}
 use Rattle.rows.specs.Rows.{unsentB, leftB}
 use Rattle.rows.specs.Rows as rows
 use Rattle.update.specs.Fault.{faultedOf, faultOf}
-use Rattle.update.specs.Theorems.{successB}
+use Rattle.update_logged.specs.Theorems.{successB}
 use Rattle.update.specs.TimeUpdate.{updateOf}
-use Rattle.update.proofs.PromiseLaws.{logged, refused-unchanged}
+use Rattle.update_logged.proofs.PromiseLaws.{logged, refused-unchanged}
 use Rattle.state_bytes.specs.State.{switchesOf, boundsOf, unsentOf, fieldsOf, fieldBytes, imageOf}
 use Rattle.theorems_reports.specs.World.{World, Call, seconds, switches, disconnect, fault, timeUpdate, recordAccess, notify, stepBy, stepOf}
 use Rattle.theorems_reports.specs.Reach.{Good}

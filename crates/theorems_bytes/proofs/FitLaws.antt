@@ -40,9 +40,9 @@ use Rattle.rows.specs.Reply.{doneB}
 use Rattle.rows.specs.Rows.{firstFailed}
 use Rattle.update.specs.Start.{newReaderOf}
 use Rattle.update.specs.Fault.{faultedOf, faultOf}
-use Rattle.update.specs.Theorems.{successB}
+use Rattle.update_logged.specs.Theorems.{successB}
 use Rattle.update.specs.TimeUpdate.{updateOf}
-use Rattle.update.proofs.PromiseLaws.{logged, refused-unchanged}
+use Rattle.update_logged.proofs.PromiseLaws.{logged, refused-unchanged}
 use Rattle.theorems_reports.proofs.GoodLaws.{new-good}
 use Rattle.racp_request.specs.Request.{opcodeIn, operatorIn, operandBytes, typedB, filterAt, filterOperand, askedOf, requestOf}
 use Rattle.codes.specs.declared.response.Code.the-variants.{InvalidOperator, OperatorNotSupported, InvalidOperand, OperandNotSupported}

@@ -24,10 +24,10 @@ use Rattle.clock.specs.declared.state.Clock.{Clock}
 use Rattle.theorems_clock.proofs.PromiseLaws as clockLaws
 use Rattle.rows.specs.Reply.{Outcome, doneB}
 use Rattle.update.specs.Fault.{faultOf}
-use Rattle.update.specs.Theorems.{Untouched}
+use Rattle.update_logged.specs.Theorems.{Untouched}
 use Rattle.update.specs.Start.{newReaderOf}
 use Rattle.update.specs.TimeUpdate.{updateOf}
-use Rattle.update.proofs.PromiseLaws.{refused-unchanged}
+use Rattle.update_logged.proofs.PromiseLaws.{refused-unchanged}
 use Rattle.theorems_reports.proofs.GoodLaws.{sound-size, new-table, new-good}
 use Rattle.racp_access.specs.Access.{accessOf}
 use Rattle.racp_notify.specs.Notify.{Notice, notifyOf}

@@ -31,7 +31,7 @@ use Rattle.rows.specs.Reply.{doneB, answered}
 use Rattle.rows.specs.Rows.{firstFailed, tableRows}
 use Rattle.rows.proofs.RowLaws.{table-0, whole-with}
 use Rattle.update.specs.Fault.{faultRecord, faultOf}
-use Rattle.update.specs.Theorems.{successB}
+use Rattle.update_logged.specs.Theorems.{successB}
 use Rattle.update.specs.TimeUpdate.{updateOf}
 use Rattle.characteristics.specs.Value.{deviceTimeBytes}
 use Rattle.characteristics.proofs.ValueLaws.{device-time-done}

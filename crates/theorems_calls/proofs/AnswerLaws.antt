@@ -22,7 +22,7 @@ use Rattle.clock.specs.declared.state.Running.{Running}
 use Rattle.clock.specs.declared.state.Running.the-variants.{Idle, Reporting}
 use Rattle.rows.specs.Reply.{Outcome, doneB, refused, answered}
 use Rattle.rows.specs.Rows.{firstFailed}
-use Rattle.update.specs.Theorems.{Untouched}
+use Rattle.update_logged.specs.Theorems.{Untouched}
 use Rattle.codes.specs.Response.{codeOf, codeBytes, countBytes}
 use Rattle.codes.specs.Racp.{reportOpcode, abortOpcode, numberOpcode, combinedOpcode, numberResponse}
 use Rattle.racp_request.specs.Request.{opcodeIn, operatorIn, operandBytes, typedB, filterAt, filterOperand, askedOf, abortOf, reportFor, numberFor, requestOf}

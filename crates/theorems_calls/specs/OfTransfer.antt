@@ -17,7 +17,7 @@ use Rattle.clock.specs.declared.state.Left.the-variants.{From}
 use Rattle.clock.specs.declared.state.Running.the-variants.{Reporting}
 use Rattle.rows.specs.Reply.{Outcome, doneB, answered}
 use Rattle.rows.specs.Rows.{firstFailed, wholeB}
-use Rattle.update.specs.Theorems.{Untouched}
+use Rattle.update_logged.specs.Theorems.{Untouched}
 use Rattle.codes.specs.Response.{codeOf, codeBytes, countBytes}
 use Rattle.racp_request.specs.Request.{opcodeIn, requestOf}
 use Rattle.codes.specs.Racp.{numberResponse, codeResponse}

@@ -28,10 +28,10 @@ use Rattle.clock.specs.declared.events.Event.{Event}
 use Rattle.clock.specs.declared.state.Clock.{Clock}
 use Rattle.rows.specs.Reply.{Outcome, doneB}
 use Rattle.update.specs.Fault.{faultOf}
-use Rattle.update.specs.Theorems.{Untouched}
+use Rattle.update_logged.specs.Theorems.{Untouched}
 use Rattle.update.specs.Start.{begun, newReaderOf}
 use Rattle.update.specs.TimeUpdate.{updateOf}
-use Rattle.update.proofs.PromiseLaws.{refused-unchanged}
+use Rattle.update_logged.proofs.PromiseLaws.{refused-unchanged}
 use Rattle.characteristics.specs.Value.{deviceTimeOf}
 use Rattle.characteristics.proofs.ValueLaws as values
 use Rattle.racp_access.specs.Access.{accessOf}

@@ -13,9 +13,9 @@ use Rattle.update_decide.specs.Decide.{decideOf, updateOperand}
 use Rattle.update_judge.specs.Grounds.{groundsOf}
 use Rattle.rows.specs.Reply.{doneB}
 use Rattle.rows.specs.Rows.{firstFailed}
-use Rattle.update.specs.Theorems.{successB, LoggedOne}
+use Rattle.update_logged.specs.Theorems.{successB, LoggedOne}
 use Rattle.update.specs.TimeUpdate.{updateRows, afterDecision, effectOf, updateOf}
-use Rattle.update.proofs.PromiseLaws.{logged}
+use Rattle.update_logged.proofs.PromiseLaws.{logged}
 use Rattle.theorems_paper.specs.Reader.{propose, output, update, second}
 use Rattle.theorems_reports.proofs.CaseLaws.{octetsB, octets-are}
 use Rattle.theorems_paper.proofs.ShutLaws.{differ, done-is}

@@ -33,7 +33,7 @@ use Rattle.update_decide.specs.declared.decide.Decision.{Decision}
 use Rattle.update_decide.specs.declared.decide.Decision.the-variants.{Unsupported, WrongLength, Rejected, Taken}
 use Rattle.update_judge.specs.declared.proposal.Proposal.{Proposal}
 use Rattle.rows.specs.Reply.{Outcome, doneB, refused, answered}
-use Rattle.update.specs.Theorems.{successB, LoggedOne}
+use Rattle.update_logged.specs.Theorems.{successB, LoggedOne}
 use Rattle.update.specs.Fault.{faultRecord, faultedOf, endingOf, faultOf}
 use Rattle.rows.specs.Rows.{firstFailed, tableRows}
 use Rattle.update.specs.TimeUpdate.{AfterDecision, afterwards, updateRows, afterDecision, updateOf}

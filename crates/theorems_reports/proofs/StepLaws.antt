@@ -24,7 +24,7 @@ use Rattle.rows.specs.Reply.{Outcome, doneB, answered}
 use Rattle.rows.specs.Rows.{firstFailed, idleB, tableRows}
 use Rattle.update.specs.TimeUpdate.{updateRows}
 use Rattle.update.proofs.FaultLaws.{fault-refused, fault-done}
-use Rattle.update.proofs.PromiseLaws.{passed}
+use Rattle.update_logged.proofs.PromiseLaws.{passed}
 use Rattle.update.proofs.UpdateLaws.{update-refused}
 use Rattle.racp_request.specs.Request.{opcodeIn, requestOf}
 use Rattle.racp_request.specs.declared.request.Request.{Request}

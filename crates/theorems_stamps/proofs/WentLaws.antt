@@ -28,9 +28,9 @@ use Rattle.update_decide.proofs.AcceptLaws.{record-fits}
 use Rattle.update_judge.proofs.ProposalLaws.{proposal-sized}
 use Rattle.update.specs.Fault.{faultRecord, faultedOf, faultOf}
 use Rattle.rows.specs.Reply.{doneB}
-use Rattle.update.specs.Theorems.{successB}
+use Rattle.update_logged.specs.Theorems.{successB}
 use Rattle.update.specs.TimeUpdate.{updateOf}
-use Rattle.update.proofs.PromiseLaws.{logged, refused-unchanged}
+use Rattle.update_logged.proofs.PromiseLaws.{logged, refused-unchanged}
 use Rattle.theorems_reports.proofs.GoodLaws.{fault-loggable}
 use Rattle.theorems_reports.specs.World.{World, world, Call, seconds, switches, disconnect, fault, timeUpdate, recordAccess, notify, worldAfter, stepBy, stepOf, runOf}
 use Rattle.theorems_reports.specs.Reach.{Good}

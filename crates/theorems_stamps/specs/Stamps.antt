@@ -19,7 +19,7 @@ use Rattle.update_judge.specs.Proposal.{proposalAt}
 use Rattle.update_decide.specs.Accept.{updateRecord}
 use Rattle.update.specs.Fault.{faultRecord, faultOf}
 use Rattle.rows.specs.Reply.{doneB}
-use Rattle.update.specs.Theorems.{successB}
+use Rattle.update_logged.specs.Theorems.{successB}
 use Rattle.update.specs.TimeUpdate.{updateOf}
 use Rattle.carry.specs.Stamp.{carryingNumber, noFaultB}
 use Rattle.carry.specs.declared.stamp.Carried.{Carried}

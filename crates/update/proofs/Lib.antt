@@ -1,5 +1,4 @@
 pub mod FaultLaws
 pub mod BeginLaws
 pub mod UpdateLaws
-pub mod PromiseLaws
 pub mod ReplyLaws

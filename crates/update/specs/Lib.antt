@@ -1,4 +1,3 @@
 pub mod Fault
 pub mod Start
 pub mod TimeUpdate
-pub mod Theorems
