@@ -11,7 +11,8 @@ use lib.Signed.{ltZ, nonNeg}
 use mir.Syntax.{w64}
 use mir.Val.{SFits}
 use Rattle.carry.proofs.IntLaws.{size-sum, fits}
-use Rattle.ramp.specs.Beast.{carriedBound, ageBound, ageOf}
+use Rattle.ramp.specs.Beast.{ageOf}
+use Rattle.ramp.specs.Bounds.{carriedBound, ageBound}
 
 size-neg : (z : ℤ) → natAbs (negℤ z) ≡ natAbs z
 size-neg (pos zero) = refl

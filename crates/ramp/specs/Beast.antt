@@ -1,9 +1,8 @@
 -- One beast or two (change request E5), in the request's order: "both antennas' tables, their clocks' Base_Time at one instant, two stamps of one
 -- tag with their next numbers, and a window of 0 to 60 seconds". The way of carrying is left open, so that nothing here looks into a table.
-use mathlib.Core.Path.{_≡_}
 use mathlib.Core.Bool.{Bool}
 use mathlib.Core.List.{List}
-use Prim.Native.Nat.{ℕ, _≤_}
+use Prim.Native.Nat.{ℕ}
 use lib.Dec.{leb}
 use lib.IntN.{ℤ, pos, natAbs, _-ℤ_}
 use Rattle.octets.specs.Choice.{pick}
@@ -42,12 +41,8 @@ unfoldable pub verdictOf : ℕ → ℕ → Carried → ℕ → Carried → Verdi
 verdictOf window leftBase left rightBase right =
     carriedOr (λ l. carriedOr (λ r. judgeOf window (ageOf leftBase l) (ageOf rightBase r)) RightRefused right) LeftRefused left
 
--- how a stamp is carried, from the stamp, its next number and a table
-abbrev pub Carrying : Type 0
-Carrying = ℕ → ℕ → List ℕ → Carried
-
--- "18 window too wide, tested first"
-unfoldable pub beastBy : Carrying → Seen → List ℕ → Seen → List ℕ → ℕ → Verdict
+-- "18 window too wide, tested first"; a stamp is carried from the stamp, its next number and a table
+unfoldable pub beastBy : (ℕ → ℕ → List ℕ → Carried) → Seen → List ℕ → Seen → List ℕ → ℕ → Verdict
 beastBy carry left leftTable right rightTable window =
     pick (leb window widestWindow)
     (verdictOf window
@@ -73,13 +68,3 @@ verdictSide Two = 0
 verdictSide WindowTooWide = 0
 verdictSide (LeftRefused n) = 1
 verdictSide (RightRefused n) = 2
-
--- how large a carried stamp can be (the promise Bounded of carrying), and with it an age
-abbrev pub carriedBound : ℕ
-carriedBound = 4398046510080
-
-abbrev pub ageBound : ℕ
-ageBound = 4402341477375
-
-abbrev pub Sized : Carried → Type 0
-Sized c = (z : ℤ) → c ≡ To z → natAbs z ≤ carriedBound

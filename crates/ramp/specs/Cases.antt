@@ -6,8 +6,9 @@ use Prim.Native.Nat.{ℕ, _+_}
 use lib.ListN.{take}
 use Rattle.carry.specs.Cases.{t0, t3, tf, rolled, logged, first, back, fault, got as carried}
 use Rattle.carry.specs.Stamp.{carryingNumber}
+use Rattle.carry.specs.declared.stamp.Carried.{Carried}
 use Rattle.carry.specs.declared.stamp.Carried.the-variants.{NotHeld}
-use Rattle.ramp.specs.Beast.{ageOf, withinB, judgeOf, carriedOr, verdictOf, Carrying, beastBy}
+use Rattle.ramp.specs.Beast.{ageOf, withinB, judgeOf, carriedOr, verdictOf, beastBy}
 use Rattle.ramp.specs.declared.beast.Seen.{Seen}
 use Rattle.ramp.specs.declared.beast.Verdict.{Verdict}
 use Rattle.ramp.specs.declared.beast.Verdict.the-variants.{One, Two, WindowTooWide, LeftRefused, RightRefused}
@@ -79,7 +80,7 @@ table =
     ∷ []
 
 -- `carryOf`, laid open by carrying's own cases
-unfoldable pub carrying : Carrying
+unfoldable pub carrying : ℕ → ℕ → List ℕ → Carried
 unfolding carried
 carrying s q t = carried (record { stamp = s; q = q; table = t; carried = NotHeld })
 

@@ -1,3 +1,4 @@
 pub mod Beast
+pub mod Bounds
 pub mod Theorems
 pub mod Cases

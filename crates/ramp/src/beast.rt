@@ -6,7 +6,8 @@ use carry::stamp::carrying_number;
 ghost use mathlib.Core.Path.{_≡_};
 ghost use Prim.Native.Nat.{_≤_};
 ghost use lib.IntN.{natAbs, _-ℤ_};
-ghost use Rattle.ramp.specs.Beast.{Sized, carriedBound, ageBound, ageOf, judgeOf, verdictOf, oneBeastOf, verdictNumber, verdictSide};
+ghost use Rattle.ramp.specs.Bounds.{Sized, carriedBound, ageBound};
+ghost use Rattle.ramp.specs.Beast.{ageOf, judgeOf, verdictOf, oneBeastOf, verdictNumber, verdictSide};
 
 // "a window of 0 to 60 seconds"
 pub const WIDEST_WINDOW: u32 = 60;

@@ -12,11 +12,11 @@ use Rattle.octets.specs.Choice.{both, pick}
 use Rattle.carry.specs.Stamp.{noFaultB, carryOf, carryingNumber}
 use Rattle.carry.specs.declared.stamp.Carried.{Carried}
 use Rattle.carry.specs.declared.stamp.Carried.the-variants.{To, TableNotSound, NotHeld, FaultAmong}
-use Rattle.ramp.specs.Beast.{widestWindow, ageOf, withinB, judgeOf, carriedOr, verdictOf, Carrying, beastBy}
+use Rattle.ramp.specs.Beast.{widestWindow, ageOf, withinB, judgeOf, carriedOr, verdictOf, beastBy}
 use Rattle.ramp.specs.declared.beast.Verdict.{Verdict}
 use Rattle.ramp.specs.declared.beast.Verdict.the-variants.{One, Two, WindowTooWide, LeftRefused, RightRefused}
 use Rattle.theorems_reports.specs.World.{World, newWorld, Call, runOf}
-use Rattle.theorems_stamps.specs.Stamps.{ranOf, loggedOf, carriedAfter, allHeldB, Carries}
+use Rattle.theorems_stamps.specs.Stamps.{ranOf, loggedOf, Carrying, carriedAfter, allHeldB, Carries}
 use Rattle.theorems_stamps.proofs.StampLaws.{carried-stamp}
 use Rattle.theorems_ramp.specs.OneBeast.{refusalBy, apart, truthOf, truthAfter, OneBeast, ByCarrying, Between, BetweenReads}
 

@@ -57,21 +57,18 @@ storyRight h = history 208 (on ∷ set h 800000000 ∷ seconds 105 ∷ []) (seco
 abbrev pub told : ℕ → ℕ → ℕ → ℕ → Verdict → Result
 told ls rs lr rr v = record { leftStamp = ls; rightStamp = rs; leftRan = lr; rightRan = rr; verdict = v; truth = v }
 
--- The right clock loses its time after the read; and it sets the time twice, where its one slot holds the last record alone.
+-- The right clock loses its time after the read; the left one is set twice, and its log's one slot holds the last record alone.
 abbrev pub faultedRight : Writable → History
 faultedRight h = history 208 (on ∷ set h 800000000 ∷ seconds 105 ∷ []) (seconds 60 ∷ fault output ∷ seconds 3540 ∷ [])
 
 abbrev pub overwrittenLeft : Writable → History
 overwrittenLeft h = history 80 (on ∷ set h 800000600 ∷ seconds 100 ∷ []) (seconds 2 ∷ set h 800000102 ∷ seconds 3 ∷ set h 800000105 ∷ seconds 3600 ∷ [])
 
-pub record ComputedBy (judge : Judging) : Type 0 where
+pub record Computed : Type 0 where
   pub writable : Writable
   -- the stamps are 595 seconds apart, the reads 5
-  pub story : resultBy judge (storyLeft writable) (storyRight writable) 5 ≡ told 800000700 800000105 3605 3600 One
-  pub narrower : resultBy judge (storyLeft writable) (storyRight writable) 4 ≡ told 800000700 800000105 3605 3600 Two
-  pub other-way : resultBy judge (storyRight writable) (storyLeft writable) 5 ≡ told 800000105 800000700 3600 3605 One
-  pub faulted : resultBy judge (storyLeft writable) (faultedRight writable) 5 ≡ told 800000700 800000105 3605 3600 (RightRefused 13)
-  pub overwritten : resultBy judge (overwrittenLeft writable) (faultedRight writable) 5 ≡ told 800000700 800000105 3605 3600 (LeftRefused 12)
-
-abbrev pub Computed : Type 0
-Computed = ComputedBy (beastBy carryOf)
+  pub story : resultBy (beastBy carryOf) (storyLeft writable) (storyRight writable) 5 ≡ told 800000700 800000105 3605 3600 One
+  pub narrower : resultBy (beastBy carryOf) (storyLeft writable) (storyRight writable) 4 ≡ told 800000700 800000105 3605 3600 Two
+  pub other-way : resultBy (beastBy carryOf) (storyRight writable) (storyLeft writable) 5 ≡ told 800000105 800000700 3600 3605 One
+  pub faulted : resultBy (beastBy carryOf) (storyLeft writable) (faultedRight writable) 5 ≡ told 800000700 800000105 3605 3600 (RightRefused 13)
+  pub overwritten : resultBy (beastBy carryOf) (overwrittenLeft writable) (faultedRight writable) 5 ≡ told 800000700 800000105 3605 3600 (LeftRefused 12)

@@ -9,12 +9,12 @@ use lib.ListN.{length}
 use Rattle.octets.specs.Choice.{pick}
 use Rattle.table.specs.Table.{sizeB, next}
 use Rattle.carry.specs.Stamp.{noFaultB, carryOf}
-use Rattle.ramp.specs.Beast.{widestWindow, Carrying, beastBy}
+use Rattle.ramp.specs.Beast.{widestWindow, beastBy}
 use Rattle.ramp.specs.declared.beast.Seen.{Seen}
 use Rattle.ramp.specs.declared.beast.Verdict.{Verdict}
 use Rattle.ramp.specs.declared.beast.Verdict.the-variants.{One, Two, WindowTooWide, LeftRefused, RightRefused}
 use Rattle.theorems_reports.specs.World.{World, newWorld, Call, runOf}
-use Rattle.theorems_stamps.specs.Stamps.{ranOf, loggedOf, allHeldB, CarriedStamp}
+use Rattle.theorems_stamps.specs.Stamps.{ranOf, loggedOf, Carrying, allHeldB, CarriedStamp}
 
 -- how one beast or two is judged: `beastBy carryOf`, or a wrong way
 abbrev pub Judging : Type 0

@@ -2,7 +2,7 @@
 -- Assumes nothing.
 use mathlib.Core.Path.{sym, _∙_}
 use Rattle.carry.proofs.CarryLaws.{bounded}
-use Rattle.ramp.specs.Beast.{Sized}
+use Rattle.ramp.specs.Bounds.{Sized}
 use Rattle.ramp.proofs.BeastLaws.{too-wide, narrow}
 use borrow.Author.Needs.{needs}
 use native.Mathlib.Omega.{arith}
