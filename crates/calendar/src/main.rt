@@ -1,18 +1,37 @@
 // What the log showed, on a calendar (change request E4): reads a log table on standard input and prints its records with date, clock
 // time and local time. All that it prints is in one buffer, which the proved function `calendar` fills.
-use calendar_list::calendar::calendar;
+#![tactic(auto)]
 
-// The input's buffer is longer than the largest table, so that input that is too long is seen to be. A program has no
-// exit status of its own: what it says on standard error makes the status 1 where it is run (.ci/program).
-fn main() {
-    let mut input = io::large_buffer();
-    let n = io::read_full(libc::STDIN_FILENO, &mut input);
-    let mut out = io::large_buffer();
-    let len = calendar(&input[..n], &mut out);
-    if !io::write_all(libc::STDOUT_FILENO, &out[..len]) {
-        io::write_all(
-            libc::STDERR_FILENO,
-            b"calendar: the lines could not be written\n",
-        );
+use anyhow::{Context, Error, Result};
+use calendar_list::calendar::calendar;
+use std::io::Read;
+use std::process::ExitCode;
+
+// More bytes than the largest table has, so that input that is too long is seen to be.
+const INPUT_BYTES: u64 = 65536;
+
+fn print_calendar(rt: &HostRuntime) -> Result<()> {
+    let mut table = Vec::new(rt.alloc());
+    rt.stdin()
+        .take(INPUT_BYTES)
+        .read_to_end(&mut table)
+        .context("the table could not be read")?;
+    let mut out = [0u8; 65536];
+    let len = calendar(&table, &mut out);
+    rt.stdout()
+        .write_all(&out[..len])
+        .context("the lines could not be written")
+}
+
+// Says on standard error what could not be read or written; the status is then 1.
+fn complain(rt: &impl Eprint, why: Error) -> ExitCode {
+    let _ = eprintln!(rt; "calendar: {why:#}");
+    ExitCode::FAILURE
+}
+
+fn main(rt: HostRuntime) -> ExitCode {
+    match print_calendar(&rt) {
+        Ok(()) => ExitCode::SUCCESS,
+        Err(why) => complain(&rt, why),
     }
 }

@@ -10,7 +10,7 @@ use rules::fields::LAST_BASE_TIME;
 
 const DAY: u64 = 86400;
 
-#[derive(Drop)]
+#[derive(Clone, Copy)]
 pub struct Date {
     pub year: u16,
     pub month: u8,
@@ -21,14 +21,14 @@ pub struct Date {
 }
 
 // A second's date, or that the second is after 2099.
-#[derive(Drop)]
+#[derive(Clone, Copy)]
 pub enum Dated {
     On(Date),
     Outside,
 }
 
 // A date's second, or that there is no such date in the years 2000 to 2099.
-#[derive(Drop)]
+#[derive(Clone, Copy)]
 pub enum Reckoned {
     Seconds(u64),
     NoSuchDate,

@@ -9,7 +9,7 @@ use record::kinds::Record;
 const QUARTER_HOUR: u64 = 900;
 
 // Seconds since 2000-01-01 by local time; or that it is not known, or was before 2000.
-#[derive(Drop)]
+#[derive(Clone, Copy)]
 pub enum LocalTime {
     At(u64),
     Unknown,

@@ -13,7 +13,7 @@ use table_sound::sound::sound;
 // Event_Log_Type of a Time_Fault (document 002, Table 3.12)
 const TIME_FAULT: u8 = 0;
 
-#[derive(Drop)]
+#[derive(Clone, Copy)]
 pub enum Carried {
     To(i64),
     TableNotSound,

@@ -20,7 +20,7 @@ const FEATURE: [u8; 4] = [0xFF, 0xFF, 0x02, 0x04];
 const PARAMETERS: [u8; 4] = [0xFF, 0xFF, 0x00, 0x00];
 
 // The answer to a read of Feature or Parameters. These take no clock, so none comes back.
-#[derive(Drop)]
+#[derive(Clone, Copy)]
 pub struct Value {
     pub answer: Answer,
     // so many bytes of the output are the value

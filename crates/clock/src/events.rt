@@ -8,7 +8,7 @@ use crate::obeys::clock_ok;
 use crate::state::{Clock, Running, Switches, all_off};
 use rules::fields::LAST_BASE_TIME;
 
-#[derive(Drop)]
+#[derive(Clone, Copy)]
 pub struct Event {
     pub answer: Answer,
     pub clock: Clock,

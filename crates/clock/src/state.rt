@@ -17,14 +17,14 @@ pub const UNKNOWN_ACCURACY: u8 = 255;
 pub const FAULT_STATUS: u16 = 0x0019;
 
 // The time, the switches, the report that runs: a change writes its part and hands the others on.
-#[derive(Drop)]
+#[derive(Clone, Copy)]
 pub struct Clock {
     pub time: Time,
     pub switches: Switches,
     pub running: Running,
 }
 
-#[derive(Drop)]
+#[derive(Clone, Copy)]
 pub struct Time {
     pub base: u32,
     // as its byte
@@ -39,20 +39,20 @@ pub struct Time {
 }
 
 // DTCP indications, RACP indications, log notifications.
-#[derive(Drop)]
+#[derive(Clone, Copy)]
 pub struct Switches {
     pub dtcp: bool,
     pub racp: bool,
     pub log: bool,
 }
 
-#[derive(Drop)]
+#[derive(Clone, Copy)]
 pub enum Running {
     Idle,
     Reporting(Report),
 }
 
-#[derive(Drop)]
+#[derive(Clone, Copy)]
 pub struct Report {
     pub opcode: u8,
     pub filter: Filter,
@@ -61,7 +61,7 @@ pub struct Report {
 }
 
 // The next record's sequence number, and how many of its bytes are sent.
-#[derive(Drop)]
+#[derive(Clone, Copy)]
 pub enum Left {
     Nothing,
     From(u16, u8),

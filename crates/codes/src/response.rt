@@ -7,7 +7,7 @@ use crate::racp::{CODE_RESPONSE, NULL};
 use octets::numbers::bytes2;
 
 // The response codes of Table 3.26 that a write, or the end of a report, is answered with.
-#[derive(Drop)]
+#[derive(Clone, Copy)]
 pub enum Code {
     Success,
     OpcodeNotSupported,

@@ -13,9 +13,9 @@ use Rattle.calendar_text.specs.Written.{dated_text, number_text}
 use Rattle.dates.specs.Moments.{moment_line}
 
 module _ (s : ℕ) where
-  pub line_dated : (d : Date) → date_of_seconds s ≡ On d → moment_line s ≡ dated_text (date_of_seconds s) 32 ++ number_text s 10
+  pub line_dated : (d : Date) → date_of_seconds s ≡ On d → moment_line s ≡ dated_text (On d) 32 ++ number_text s 10
   unfolding moment_line
-  line_dated d e = rw (le-leb s last_base_time (had_date s d e))
+  line_dated d e = rw (le-leb s last_base_time (had_date s d e), e)
 
   pub line_outside : date_of_seconds s ≡ Outside → moment_line s ≡ dated_text Outside 10
   unfolding moment_line

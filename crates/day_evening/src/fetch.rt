@@ -21,7 +21,7 @@ use update::start::start;
 const WINDOW: u32 = 10;
 
 // What the reader's clock is and what the tablet has, in the course of a report.
-#[derive(Drop)]
+#[derive(Clone, Copy)]
 pub struct Fetch {
     pub clock: Clock,
     pub joining: Joining,

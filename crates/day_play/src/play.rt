@@ -4,20 +4,20 @@ ghost use Rattle.day_play.specs.Play.{opened_of, stepped_of, played_of};
 
 use crate::reader::{Event, Reader, lived, started};
 
-#[derive(Drop)]
+#[derive(Clone, Copy)]
 pub enum Antenna {
     Left,
     Right,
     Both,
 }
 
-#[derive(Drop)]
+#[derive(Clone, Copy)]
 pub struct Happening {
     pub at: Antenna,
     pub event: Event,
 }
 
-#[derive(Drop)]
+#[derive(Clone, Copy)]
 pub struct Ramp {
     pub left: Reader,
     pub right: Reader,

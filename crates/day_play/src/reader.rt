@@ -15,14 +15,14 @@ use update::start::start;
 use update::time_update::time_update;
 
 // A read of a tag: "stamp" is the reader's Base_Time then, q "its next sequence number".
-#[derive(Drop)]
+#[derive(Clone, Copy)]
 pub struct Note {
     pub seen: bool,
     pub stamp: u32,
     pub q: u16,
 }
 
-#[derive(Drop)]
+#[derive(Clone, Copy)]
 pub struct Reader {
     pub clock: Clock,
     pub table: [u8; 528],
@@ -30,7 +30,7 @@ pub struct Reader {
     pub notes: [Note; 8],
 }
 
-#[derive(Drop)]
+#[derive(Clone, Copy)]
 pub enum Event {
     // so many seconds pass
     Seconds(u32),

@@ -1,3 +1,5 @@
 // The drivers' sheet: the lines of a loading day, put together by value.
+#![tactic(auto)]
+
 pub mod sheet;
 pub mod theorems;

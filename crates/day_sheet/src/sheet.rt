@@ -8,21 +8,21 @@ use ramp::beast::{Verdict, verdict_number};
 use text::line::{Line, empty, with_byte, with_number, with_word};
 
 // What one antenna has of a tag: the stamp that it noted, and what carrying made of it.
-#[derive(Drop)]
+#[derive(Clone, Copy)]
 pub enum Sight {
     Missed,
     Seen(u32, Carried),
 }
 
 // One beast or two: where an antenna missed the tag there is no pair of stamps to compare.
-#[derive(Drop)]
+#[derive(Clone, Copy)]
 pub enum Ruling {
     NoPair,
     Said(Verdict),
 }
 
 // What stands in a column of times.
-#[derive(Drop)]
+#[derive(Clone, Copy)]
 pub enum Shown {
     Nothing,
     At(u64),

@@ -5,7 +5,7 @@ ghost use Rattle.fetch_map.specs.Map.{ones_of, received_of};
 use fetch_told::told::MAP_WORDS;
 use fetch_word::word::ones;
 
-#[derive(Drop)]
+#[derive(Clone, Copy)]
 pub enum Tally {
     Received(u32),
     WrongWords,

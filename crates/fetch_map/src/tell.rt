@@ -5,7 +5,7 @@ ghost use Rattle.fetch_map.specs.Map.{mapping, inside_from, tell_of};
 use fetch_told::told::{MAP_WORDS, Told, inside_bits};
 
 // The answer of a call that changes the map.
-#[derive(Drop)]
+#[derive(Clone, Copy)]
 pub enum Mapped {
     Done,
     WrongWords,

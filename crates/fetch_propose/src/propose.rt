@@ -9,7 +9,7 @@ use fetch_told::told::{MAP_WORDS, Told, range_size};
 use fetch_word::run::{Run, least, look};
 
 // The run's first and last number.
-#[derive(Drop)]
+#[derive(Clone, Copy)]
 pub enum Proposal {
     Missing(u16, u16),
     NothingMissing,

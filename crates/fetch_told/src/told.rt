@@ -11,7 +11,7 @@ use fetch_word::word::below;
 pub const MAP_WORDS: usize = 1024;
 
 // Any two numbers are a range: it runs forward from the oldest, over 65,535 where the newest comes before it.
-#[derive(Drop)]
+#[derive(Clone, Copy)]
 pub enum Told {
     None,
     Held(u16, u16),

@@ -5,7 +5,7 @@ ghost use Rattle.fetch_word.specs.Run.{run as Run·run, missing_first, received_
 
 // What was seen so far: how many received numbers came before the run, and how long the run is. It is ongoing until a received number
 // comes after a missing one.
-#[derive(Drop)]
+#[derive(Clone, Copy)]
 pub struct Run {
     pub before: u32,
     pub length: u32,

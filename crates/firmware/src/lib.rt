@@ -1,6 +1,8 @@
 // The entry points for the C radio firmware, over numbers and byte slices, in one crate since an archive
 // exports its own crate's. Each is the call of `server_bytes`, `tablet_bytes`, `salvage_bytes`, `ramp_bytes`,
 // `fetch_bytes` or `codes` under its name in C: at least 0 where it is done, below 0 minus the paper's refusal number.
+#![tactic(auto)]
+
 pub mod calls;
 pub mod errors;
 pub mod events;

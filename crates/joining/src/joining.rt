@@ -20,7 +20,7 @@ pub const INSIDE: u8 = 2;
 const LAST_COUNTER: u8 = 63;
 
 // "The record builds up in that state": its first `len` bytes.
-#[derive(Drop)]
+#[derive(Clone, Copy)]
 pub struct Joining {
     pub phase: u8,
     // of the notification that follows
@@ -29,14 +29,14 @@ pub struct Joining {
     pub bytes: [u8; MOST_BYTES as usize],
 }
 
-#[derive(Drop)]
+#[derive(Clone, Copy)]
 pub enum Answer {
     More,
     Whole,
     Refused,
 }
 
-#[derive(Drop)]
+#[derive(Clone, Copy)]
 pub struct Joined {
     pub answer: Answer,
     pub joining: Joining,

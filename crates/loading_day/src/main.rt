@@ -1,4 +1,6 @@
 // The loading day: plays an ordinary day on a ramp of two antennas and prints the drivers' sheet.
+#![tactic(auto)]
+
 mod page;
 mod story;
 mod written;
@@ -8,6 +10,7 @@ ghost use Rattle.loading_day.specs.Page.{page_text, sheet_of};
 ghost use Rattle.loading_day.specs.Story.{the_day, the_tags};
 
 use page::{Page, sheet};
+use std::process::ExitCode;
 use story::{day, tags};
 
 // The sheet of the story.
@@ -17,15 +20,14 @@ fn today() -> Page
     sheet(day(), tags())
 }
 
-// A page that could not be written is said on standard error, which makes the status 1 where it is run (.ci/program).
-fn main() {
+// A sheet that could not be written is said on standard error, and the status is 1.
+fn main(rt: HostRuntime) -> ExitCode {
     let page = today();
     let bytes = page.bytes;
     let len = page.len;
-    if !io::write_all(libc::STDOUT_FILENO, &bytes[..len]) {
-        io::write_all(
-            libc::STDERR_FILENO,
-            b"loading_day: the sheet could not be written\n",
-        );
-    }
+    let Err(why) = rt.stdout().write_all(&bytes[..len]) else {
+        return ExitCode::SUCCESS;
+    };
+    let _ = eprintln!(rt; "loading_day: the sheet could not be written: {why}");
+    ExitCode::FAILURE
 }

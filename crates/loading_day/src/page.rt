@@ -11,7 +11,7 @@ use day_sheet::sheet::{tag_line, title_line};
 use text::line::{Line, put_line};
 
 // Nine lines of at most 96 bytes; its first `len` bytes count.
-#[derive(Drop)]
+#[derive(Clone, Copy)]
 pub struct Page {
     pub bytes: [u8; 864],
     pub len: usize,

@@ -27,7 +27,7 @@ use rows::rows::{and_then, table_rows};
 use table_look::look::{age_of, record_at};
 use table_look::matching::count_matching;
 
-#[derive(Drop)]
+#[derive(Clone, Copy)]
 pub struct Notified {
     pub answer: Answer,
     // these bytes are the closing response; else they are a segment

@@ -15,7 +15,7 @@ pub const LEFT: u8 = 1;
 pub const RIGHT: u8 = 2;
 
 // What one antenna has of a tag: its clock's Base_Time now, the stamp that it noted, and its log's next number then.
-#[derive(Drop)]
+#[derive(Clone, Copy)]
 pub struct Seen {
     pub base: u32,
     pub stamp: u32,
@@ -23,7 +23,7 @@ pub struct Seen {
 }
 
 // The number of a side's refusal is that of carrying.
-#[derive(Drop)]
+#[derive(Clone, Copy)]
 pub enum Verdict {
     One,
     Two,

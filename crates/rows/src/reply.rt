@@ -6,7 +6,7 @@ ghost use Rattle.rows.specs.Reply.{done_b};
 use clock::answers::Answer;
 use clock::state::Clock;
 
-#[derive(Drop)]
+#[derive(Clone, Copy)]
 pub struct Reply {
     pub answer: Answer,
     pub clock: Clock,

@@ -1,31 +1,50 @@
 // Salvage (change request E9): reads a damaged log table on standard input and writes the one that was got back to standard output,
 // the report in words to standard error. All that is written is in two buffers, which the proved function `tell` fills.
-use salvage_text::told::tell;
+#![tactic(auto)]
 
-// The input's buffer is longer than the largest table, so that input that is too long is seen to be. What `read_full` takes for the
-// input's end is asked for once more: half a table that came before an error must not pass for a whole one. A program has no exit
-// status of its own: what it says on standard error besides a report makes the status 1 where it is run (.ci/program).
-fn main() {
-    let mut input = io::large_buffer();
-    let n = io::read_full(libc::STDIN_FILENO, &mut input);
-    if libc::read(libc::STDIN_FILENO, &mut input[n..]) != 0 {
-        io::write_all(
-            libc::STDERR_FILENO,
-            b"salvage: the input could not be read\n",
-        );
-        return;
-    }
-    let mut table = io::large_buffer();
-    let mut out = io::large_buffer();
-    let told = tell(&input[..n], &mut table, &mut out);
+use anyhow::{Context, Error, Result};
+use salvage_text::told::tell;
+use std::io::Read;
+use std::process::ExitCode;
+
+// More bytes than the largest table has, so that input that is too long is seen to be.
+const INPUT_BYTES: u64 = 65536;
+
+// Half a table that came before an error does not pass for a whole one: nothing is written of it. The status is 0 where a table was
+// written, and a refusal, which writes none, has 1.
+fn get_back(rt: &HostRuntime) -> Result<ExitCode> {
+    let mut input = Vec::new(rt.alloc());
+    rt.stdin()
+        .take(INPUT_BYTES)
+        .read_to_end(&mut input)
+        .context("the input could not be read")?;
+    let mut table = [0u8; 65536];
+    let mut out = [0u8; 65536];
+    let told = tell(&input, &mut table, &mut out);
     let size = told.table;
-    if !io::write_all(libc::STDOUT_FILENO, &table[..size]) {
-        io::write_all(
-            libc::STDERR_FILENO,
-            b"salvage: the table could not be written\n",
-        );
-        return;
-    }
+    rt.stdout()
+        .write_all(&table[..size])
+        .context("the table could not be written")?;
     let len = told.told;
-    io::write_all(libc::STDERR_FILENO, &out[..len]);
+    rt.stderr()
+        .write_all(&out[..len])
+        .context("the report could not be written")?;
+    Ok(if size == 0 {
+        ExitCode::FAILURE
+    } else {
+        ExitCode::SUCCESS
+    })
+}
+
+// Says on standard error what could not be read or written; the status is then 1.
+fn complain(rt: &impl Eprint, why: Error) -> ExitCode {
+    let _ = eprintln!(rt; "salvage: {why:#}");
+    ExitCode::FAILURE
+}
+
+fn main(rt: HostRuntime) -> ExitCode {
+    match get_back(&rt) {
+        Ok(status) => status,
+        Err(why) => complain(&rt, why),
+    }
 }

@@ -1,2 +1,4 @@
 // Salvage (docs/RULES.md): the call, `salvage`.
+#![tactic(auto)]
+
 pub mod salvage;

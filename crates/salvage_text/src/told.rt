@@ -11,7 +11,7 @@ use salvage_report::entry::ENTRY_BYTES;
 use text::line::put_line;
 
 // How many bytes of either buffer are to be written.
-#[derive(Drop)]
+#[derive(Clone, Copy)]
 pub struct Told {
     pub table: usize,
     pub told: usize,

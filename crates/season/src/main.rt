@@ -1,68 +1,63 @@
 // Season figures (change request E12): reads a concatenation of log tables on standard input, each preceded by its size in
 // four bytes, and prints what each comes to, and all together. What is printed is decided in `season_step::step::step`; here an
 // entry is read, a step made, its lines written. The one buffer that is read into has 64 KiB.
-ghost use Rattle.std.specs.Prelude.{◌≡◌, true, false, ◌+◌, ◌≤◌, length};
+#![tactic(auto)]
 
-use octets::choice::both;
+ghost use Rattle.std.specs.Prelude.{◌≡◌, true, false, ◌+◌, ◌≤◌, length, IfOk};
+
+use anyhow::{Context, Error, Result};
 use season_figures::figures::Figures;
 use season_step::step::{LINES_BYTES, Run, SIZE_BYTES, begun, step, table_bytes};
+use std::io;
+use std::io::Read;
+use std::process::ExitCode;
 
-// How many bytes were read, and whether that is all that the input has: false where a read failed.
-#[derive(Drop)]
-struct Got {
-    bytes: usize,
-    sure: bool,
-}
-
-// Reads until `buf` is full or the input ends. (`io::read_full` does not tell a read that failed from the input's end.)
-fn read_part(buf: &mut [u8]) -> Got
-    ensures { result.bytes ≤ length buf.old }
+// Reads until `buf` is full or the input ends, and answers how many bytes it read.
+fn read_part(input: &mut impl Read, buf: &mut [u8]) -> io::Result<usize>
+    ensures { IfOk result (λ bytes. bytes ≤ length buf.old) }
 {
     let mut done = 0;
     while done < buf.len() {
-        let got = libc::read(libc::STDIN_FILENO, &mut buf[done..]);
-        if got < 0 {
-            return Got {
-                bytes: done,
-                sure: false,
-            };
-        }
-        let more = io::count(got, &buf[done..]);
+        let more = input.read(&mut buf[done..])?;
         if more == 0 {
-            return Got {
-                bytes: done,
-                sure: true,
-            };
+            return Ok(done);
         }
         done += more;
     }
-    Got {
-        bytes: done,
-        sure: true,
-    }
+    Ok(done)
 }
 
 // An entry: four bytes, and the table that they ask for.
-fn read_entry(input: &mut [u8]) -> Got
-    requires { 65536 ≤ length input.old }
-    ensures { result.bytes ≤ length input.old }
+fn read_entry(input: &mut impl Read, buf: &mut [u8]) -> io::Result<usize>
+    requires { 65536 ≤ length buf.old }
+    ensures { IfOk result (λ bytes. bytes ≤ length buf.old) }
 {
-    let head = read_part(&mut input[..SIZE_BYTES]);
-    let n = head.bytes;
-    let end = SIZE_BYTES + table_bytes(&input[..n]);
-    let table = read_part(&mut input[SIZE_BYTES..end]);
-    Got {
-        bytes: n + table.bytes,
-        sure: both(head.sure, table.sure),
-    }
+    let n = read_part(input, &mut buf[..SIZE_BYTES])?;
+    let end = SIZE_BYTES + table_bytes(&buf[..n]);
+    let table = read_part(input, &mut buf[SIZE_BYTES..end])?;
+    Ok(n + table)
 }
 
-// A program has no exit status of its own: what it says on standard error makes the status 1 where it is run
-// (.ci/program). Nothing more is written.
-fn stopped(position: u32, totals: Figures, why: &[u8]) -> Run
+// An entry read, a step made, its lines written.
+fn turn(rt: &HostRuntime, position: u32, totals: Figures, buf: &mut [u8]) -> Result<Run>
+    requires { 65536 ≤ length buf.old }
+    ensures { IfOk result (λ run. run.more ≡ true → (position ≤ 65535) × (run.position ≡ position + 1)) }
+{
+    let n = read_entry(&mut rt.stdin(), buf).context("the input could not be read")?;
+    let mut out = [0u8; LINES_BYTES];
+    let run = step(position, totals, &buf[..n], &mut out);
+    let len = run.len;
+    rt.stdout()
+        .write_all(&out[..len])
+        .context("the figures could not be written")?;
+    Ok(run)
+}
+
+// Says on standard error what could not be read or written. Nothing more is written.
+fn stopped(rt: &impl Eprint, position: u32, totals: Figures, why: Error) -> Run
     ensures { result.more ≡ false }
 {
-    io::write_all(libc::STDERR_FILENO, why);
+    let _ = eprintln!(rt; "season: {why:#}");
     Run {
         len: 0,
         more: false,
@@ -71,34 +66,20 @@ fn stopped(position: u32, totals: Figures, why: &[u8]) -> Run
     }
 }
 
-// An entry read, a step made, its lines written.
-fn turn(position: u32, totals: Figures, input: &mut [u8]) -> Run
-    requires { 65536 ≤ length input.old }
-    ensures { result.more ≡ true → (position ≤ 65535) × (result.position ≡ position + 1) }
-{
-    let entry = read_entry(input);
-    let n = entry.bytes;
-    if !entry.sure {
-        return stopped(position, totals, b"season: the input could not be read\n");
-    }
-    let mut out = [0u8; LINES_BYTES];
-    let run = step(position, totals, &input[..n], &mut out);
-    let len = run.len;
-    if !io::write_all(libc::STDOUT_FILENO, &out[..len]) {
-        return stopped(
-            position,
-            totals,
-            b"season: the figures could not be written\n",
-        );
-    }
-    run
-}
-
-fn main() {
-    let mut input = io::large_buffer();
+fn main(rt: HostRuntime) -> ExitCode {
+    let mut status = ExitCode::SUCCESS;
+    let mut buf = [0u8; 65536];
     let mut run = begun();
     while run.more {
+        let position = run.position;
         let totals = run.totals;
-        run = turn(run.position, totals, &mut input);
+        run = match turn(&rt, position, totals, &mut buf) {
+            Ok(next) => next,
+            Err(why) => {
+                status = ExitCode::FAILURE;
+                stopped(&rt, position, totals, why)
+            }
+        };
     }
+    status
 }

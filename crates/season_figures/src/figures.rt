@@ -8,7 +8,7 @@ use record::kinds::Record;
 use table_look::look::{held_count, record_at};
 
 // Seconds in 64 bits: 65,535 full tables move a clock by fewer than 2^63 of them (`theorems_season::theorems::exact`).
-#[derive(Drop)]
+#[derive(Clone, Copy)]
 pub struct Figures {
     pub updates: u32,
     pub forward: u64,

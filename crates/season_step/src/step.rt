@@ -21,7 +21,7 @@ const MOST_TABLES: u32 = 65535;
 pub const LINES_BYTES: usize = 256;
 
 // The run as a step leaves it: `len` bytes of the lent buffer are its lines.
-#[derive(Drop)]
+#[derive(Clone, Copy)]
 pub struct Run {
     pub len: usize,
     pub more: bool,

@@ -12,7 +12,7 @@ use octets::numbers::{bytes2, bytes4, get16, get32};
 pub const STATE_BYTES: usize = 32;
 
 // A filter's operator and its values; 0 for a value that it has not.
-#[derive(Drop)]
+#[derive(Clone, Copy)]
 pub struct Bounds {
     pub operator: u8,
     pub minimum: u16,
@@ -20,7 +20,7 @@ pub struct Bounds {
 }
 
 // What is left of a report: 1 with the next record's number and its bytes sent, or zeros.
-#[derive(Drop)]
+#[derive(Clone, Copy)]
 pub struct Unsent {
     pub left: u8,
     pub next: u16,
@@ -28,7 +28,7 @@ pub struct Unsent {
 }
 
 // The running report as bytes 17 to 27 have it; zeros where none is running.
-#[derive(Drop)]
+#[derive(Clone, Copy)]
 pub struct Fields {
     pub opcode: u8,
     pub bounds: Bounds,

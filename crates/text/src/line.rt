@@ -7,7 +7,7 @@ ghost use Rattle.text.specs.Line.{text_of, fitted, decimal};
 use octets::parts::put;
 
 // A line of text that is built up by value: its first `len` bytes count.
-#[derive(Drop)]
+#[derive(Clone, Copy)]
 pub struct Line {
     pub bytes: [u8; 96],
     pub len: usize,

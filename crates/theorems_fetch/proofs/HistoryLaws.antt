@@ -18,7 +18,7 @@ use Rattle.fetch_propose.specs.declared.propose.Proposal.TheVariants.{Missing, N
 use Rattle.fetch_propose.proofs.ProposeLaws.{propose_done}
 use Rattle.fetch_propose.proofs.SearchLaws.{run_missing}
 use Rattle.theorems_fetch.specs.History.{range, number_of, told_of, tell, take, propose, map_of, last_of, held_b, kept_b, count_b, FirstRun, KeptIn, KeptBelow}
-use Rattle.theorems_fetch.proofs.RangeLaws.{held_reads, held_makes, not_held, told_some, range_size, inside_near, outside_none}
+use Rattle.theorems_fetch.proofs.RangeLaws.{held_reads, held_makes, not_held, told_some, range_size_lem, inside_near, outside_none}
 use Rattle.theorems_fetch.proofs.KeptLaws.{Alike, alike}
 use Rattle.theorems_fetch.proofs.CountLaws.{count_alike, map_ones, count_inside}
 use Rattle.theorems_fetch.proofs.GapLaws.{Gap, before, gap, first_gap}
@@ -104,7 +104,7 @@ proposed : (m : List ℕ) (f h : ℕ) → h ≤ 1023 → proposed_in m (told_of 
 unfolding run_among run_after received_first missing_first numbers_from row
 proposed m f zero few = refl
 proposed m f (suc h) few =
-    ap (proposed_in m) (told_some f h) ∙ ap (λ (n : ℕ). run_among (number_of f) (numbers_from m (number_of f) n)) (range_size f h (omega arith))
+    ap (proposed_in m) (told_some f h) ∙ ap (λ (n : ℕ). run_among (number_of f) (numbers_from m (number_of f) n)) (range_size_lem f h (omega arith))
 
 answers : (m : List ℕ) (f h : ℕ) (kept : ℕ → Bool) → Alike m (range f h) kept → KeptIn propose m (range f h) kept
 answers m f h kept a =

@@ -50,9 +50,9 @@ module _ (f h : ℕ) where
     newest_place : place_by_age (number_of f) (number_of (f + suc h - 1)) ≡ h
     newest_place = place_after f (f + suc h - 1) (omega arith) (omega arith) ∙ omega arith
 
-    pub range_size : range_size (number_of f) (number_of (f + suc h - 1)) ≡ suc h
+    pub range_size_lem : range_size (number_of f) (number_of (f + suc h - 1)) ≡ suc h
     unfolding range_size
-    range_size = omega (arith, newest_place)
+    range_size_lem = omega (arith, newest_place)
 
     inside_some : (s : ℕ) → inside_b (told_of (range f (suc h))) s ≡ leb (place_by_age (number_of f) s) h
     unfolding inside_b

@@ -1,6 +1,8 @@
 // One outcome of each call, over the contract that the call itself must meet: the doors of the server, of the tablet, for C and
 // of the programs' crates, and what stands behind them. `of_entries`: that an entry point has an outcome at all, for any
 // bytes. `weaker`: promises that two outcomes meet.
+#![tactic(auto)]
+
 pub mod of_behind;
 pub mod of_boundary;
 pub mod of_calendar;

@@ -11,7 +11,7 @@ use update_judge::proposal::{Proposal, proposal_at};
 // The opcode and the operand's 10 bytes.
 const UPDATE_WRITE_BYTES: usize = 11;
 
-#[derive(Drop)]
+#[derive(Clone, Copy)]
 pub enum Decision {
     Unsupported,
     WrongLength,

@@ -10,7 +10,7 @@ use codes::dtcp::{
 use octets::numbers::bytes2;
 
 // A response's bytes, and zeros after them up to the longest response's length.
-#[derive(Drop)]
+#[derive(Clone, Copy)]
 pub struct Response {
     pub len: usize,
     pub bytes: [u8; 5],

@@ -4,7 +4,7 @@ ghost use Rattle.update_judge.specs.Proposal.{update_write_bytes, proposal_at};
 
 use octets::numbers::{get16, get32};
 
-#[derive(Drop)]
+#[derive(Clone, Copy)]
 pub struct Proposal {
     // Time_Update_Flags, Table 3.17
     pub flags: u16,

@@ -1,0 +1,8 @@
+-- The cases, computed on the definitions.
+use mathlib.Core.Path.{refl}
+use Rattle.carry.specs.Cases.{table, got, expected}
+use Rattle.carry.proofs.theorems.computed.Goals as goal
+
+pub returns : goal.returns
+unfolding table got expected
+returns c = refl

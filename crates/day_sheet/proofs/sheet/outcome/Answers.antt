@@ -1,0 +1,23 @@
+-- A carried stamp is shown by its time, a refusal by its number.
+use mathlib.Core.List.{[], ◌∷◌}
+use mir.Syntax.{w64}
+use mir.Facts.{to_z-of_z}
+use native.Mathlib.Omega.{arith}
+use types.Run.{miss}
+use mathlib.Core.Path.{sym, ap, ◌∙◌}
+use Rattle.day_sheet.specs.Sheet.{outcome_of}
+use Rattle.day_sheet.proofs.SheetLaws.{refused_is}
+use Rattle.day_sheet.proofs.sheet.outcome.Goals as goal
+
+pub returns-in_default : goal.returns-in_default
+returns-in_default c =
+    refused_is c.args.c
+    (λ z e. miss (1 ∷ 2 ∷ 3 ∷ []) 0 tt (rw e at c.in_default.in_default-own.keys2))
+    c.carrying_number.ensures
+
+pub returns : goal.returns
+unfolding outcome_of
+returns c =
+    c.signed.ensures
+    ∙ rw (to_z-of_z {w = w64} {z = c.in-To.z} (record { sfits = omega arith }))
+    (sym (ap outcome_of c.in-To.is))

@@ -1,0 +1,12 @@
+-- Each kind's three numbers.
+use mathlib.Core.Path.{sym, ap}
+use Rattle.fetch_bytes.specs.Told.{told_numbers}
+use Rattle.fetch_bytes.proofs.told.told_numbers.Goals as goal
+
+pub returns-in-None : goal.returns-in-None
+unfolding told_numbers
+returns-in-None c = sym (ap told_numbers c.in-None.is)
+
+pub returns-in-Held : goal.returns-in-Held
+unfolding told_numbers
+returns-in-Held c = sym (ap told_numbers c.in-Held.is)

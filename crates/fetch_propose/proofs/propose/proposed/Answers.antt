@@ -1,0 +1,15 @@
+-- Nothing, or the run's two ends.
+use mathlib.Core.Path.{ap₂, ◌∙◌}
+use Rattle.fetch_propose.specs.declared.propose.Proposal.TheVariants.{Missing}
+use Rattle.fetch_propose.proofs.SearchLaws.{run_nothing, run_missing}
+use native.Mathlib.Omega.{arith}
+use Rattle.fetch_propose.proofs.propose.proposed.Goals as goal
+
+pub returns-then-run-eq0 : goal.returns-then-run-eq0
+returns-then-run-eq0 c = let a = c.args in run_nothing a.oldest a.run.before a.run.length (omega arith)
+
+pub returns : goal.returns
+returns c =
+    let a = c.args in
+    ap₂ Missing c.number_at.ensures c.number_at-2.ensures
+    ∙ run_missing a.oldest a.run.before a.run.length (λ e. omega arith)

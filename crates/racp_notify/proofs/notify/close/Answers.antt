@@ -1,0 +1,8 @@
+-- The response is laid down, and no report runs.
+use Rattle.racp_notify.specs.Notify.{noticed}
+use Rattle.racp_notify.proofs.SegmentLaws.{closing_length_lem}
+use Rattle.racp_notify.proofs.notify.close.Goals as goal
+
+pub returns : goal.returns
+unfolding noticed
+returns c = rw (c.with_running.ensures, c.put.ensures, c.closing-response.ensures, closing_length_lem _ _)

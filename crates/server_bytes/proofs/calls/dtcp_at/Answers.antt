@@ -1,0 +1,19 @@
+-- `update_of` of the clock that the state stands for, and the state settled by its reply.
+use mir.Facts.{to_z-of_z}
+use Rattle.clock.specs.declared.state.Clock.{Clock}
+use Rattle.update.specs.TimeUpdate.{update_of}
+use Rattle.update.proofs.ReplyLaws.{update_replies}
+use Rattle.server_bytes.specs.Calls.{dtcp_at}
+use Rattle.server_bytes.proofs.CallLaws.{reply_sized, reply_settled}
+use Rattle.server_bytes.proofs.calls.dtcp_at.Goals as goal
+
+pub settle-requires : goal.settle-requires
+settle-requires c =
+    let a = c.args in
+    reply_sized a.state.now c.clock_of.ensures (λ (k : Clock). update_of k a.table.now a.write.now a.out.now) c.time_update-reply.ensures (update_replies a.table.now a.write.now a.out.now)
+
+pub returns : goal.returns
+unfolding dtcp_at
+returns c =
+    let a = c.args in
+    reply_settled a.state.now c.clock_of.ensures (λ (k : Clock). update_of k a.table.now a.write.now a.out.now) c.time_update-reply.ensures (to_z-of_z (record { sfits = c.settle.type_inv })) c.settle.ensures

@@ -1,0 +1,24 @@
+-- `notify_of` of the clock that the state stands for, and the state settled by what was said.
+use mir.Facts.{to_z-of_z}
+use Rattle.clock.specs.declared.state.Clock.{Clock}
+use Rattle.racp_notify.specs.Notify.{notify_of}
+use Rattle.racp_notify.proofs.ReplyLaws.{notify_replies}
+use Rattle.server_bytes.specs.Calls.{notify_at}
+use Rattle.server_bytes.proofs.CallLaws.{notice_short, notice_sized, notice_settled}
+use Rattle.server_bytes.proofs.calls.notify_at.Goals as goal
+
+pub reply_of-said-requires : goal.reply_of-said-requires
+reply_of-said-requires c =
+    let a = c.args in
+    notice_short a.state.now c.clock_of.ensures (λ (k : Clock). notify_of k a.table.now a.p a.out.now) c.notify.ensures (notify_replies a.table.now a.p a.out.now)
+
+pub settle-requires : goal.settle-requires
+settle-requires c =
+    let a = c.args in
+    notice_sized a.state.now c.clock_of.ensures (λ (k : Clock). notify_of k a.table.now a.p a.out.now) c.notify.ensures (notify_replies a.table.now a.p a.out.now) c.reply_of-said.ensures
+
+pub returns : goal.returns
+unfolding notify_at
+returns c =
+    let a = c.args in
+    notice_settled a.state.now c.clock_of.ensures (λ (k : Clock). notify_of k a.table.now a.p a.out.now) c.notify.ensures c.reply_of-said.ensures a.table.now (to_z-of_z (record { sfits = c.settle.type_inv })) c.settle.ensures

@@ -1,0 +1,19 @@
+-- `access_of` of the clock that the state stands for, and the state settled by its reply.
+use mir.Facts.{to_z-of_z}
+use Rattle.clock.specs.declared.state.Clock.{Clock}
+use Rattle.racp_access.specs.Access.{access_of}
+use Rattle.racp_access.proofs.ReplyLaws.{access_replies}
+use Rattle.server_bytes.specs.Calls.{racp_at}
+use Rattle.server_bytes.proofs.CallLaws.{reply_sized, reply_settled}
+use Rattle.server_bytes.proofs.calls.racp_at.Goals as goal
+
+pub settle-requires : goal.settle-requires
+settle-requires c =
+    let a = c.args in
+    reply_sized a.state.now c.clock_of.ensures (λ (k : Clock). access_of k a.table.now a.write.now a.out.now) c.record_access-reply.ensures (access_replies a.table.now a.write.now a.out.now)
+
+pub returns : goal.returns
+unfolding racp_at
+returns c =
+    let a = c.args in
+    reply_settled a.state.now c.clock_of.ensures (λ (k : Clock). access_of k a.table.now a.write.now a.out.now) c.record_access-reply.ensures (to_z-of_z (record { sfits = c.settle.type_inv })) c.settle.ensures

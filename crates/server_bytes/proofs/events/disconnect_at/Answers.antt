@@ -1,0 +1,19 @@
+-- `disconnect_of` of the clock that the state stands for, and the state settled by it.
+use mir.Facts.{to_z-of_z}
+use Rattle.clock.specs.Events.{disconnect_of}
+use Rattle.clock.specs.declared.state.Clock.{Clock}
+use Rattle.clock.proofs.EventLaws.{disconnect_2}
+use Rattle.server_bytes.specs.Events.{disconnect_at}
+use Rattle.server_bytes.proofs.CallLaws.{event_sized, event_settled}
+use Rattle.server_bytes.proofs.events.disconnect_at.Goals as goal
+
+pub settle_event-requires : goal.settle_event-requires
+settle_event-requires c =
+    let a = c.args in
+    event_sized a.state.now c.clock_of.ensures (λ (k : Clock). disconnect_of k) c.disconnect-event.ensures (λ (k : Clock). disconnect_2 k)
+
+pub returns : goal.returns
+unfolding disconnect_at
+returns c =
+    let a = c.args in
+    event_settled a.state.now c.clock_of.ensures (λ (k : Clock). disconnect_of k) c.disconnect-event.ensures (to_z-of_z (record { sfits = c.settle_event.type_inv })) c.settle_event.ensures

@@ -1,0 +1,19 @@
+-- `seconds_of` of the clock that the state stands for, and the state settled by it.
+use mir.Facts.{to_z-of_z}
+use Rattle.clock.specs.Events.{seconds_of}
+use Rattle.clock.specs.declared.state.Clock.{Clock}
+use Rattle.clock.proofs.EventLaws.{seconds_2}
+use Rattle.server_bytes.specs.Events.{seconds_at}
+use Rattle.server_bytes.proofs.CallLaws.{event_sized, event_settled}
+use Rattle.server_bytes.proofs.events.seconds_at.Goals as goal
+
+pub settle_event-requires : goal.settle_event-requires
+settle_event-requires c =
+    let a = c.args in
+    event_sized a.state.now c.clock_of.ensures (λ (k : Clock). seconds_of k a.n) c.seconds-event.ensures (λ (k : Clock). seconds_2 k a.n)
+
+pub returns : goal.returns
+unfolding seconds_at
+returns c =
+    let a = c.args in
+    event_settled a.state.now c.clock_of.ensures (λ (k : Clock). seconds_of k a.n) c.seconds-event.ensures (to_z-of_z (record { sfits = c.settle_event.type_inv })) c.settle_event.ensures

@@ -1,0 +1,16 @@
+-- `parameters_of`, with its result.
+use mathlib.Core.Path.{◌∙◌}
+use mir.Facts.{to_z-of_z}
+use Rattle.server_bytes.specs.ValuesRead.{parameters_at}
+use Rattle.characteristics.proofs.ReplyLaws.{parameters_short}
+use Rattle.server_bytes.proofs.ValueLaws.{value_short, value_told}
+use Rattle.server_bytes.proofs.values_read.parameters_at.Goals as goal
+
+pub result_of-requires : goal.result_of-requires
+result_of-requires c = value_short c.parameters-told.ensures (parameters_short _)
+
+pub returns : goal.returns
+unfolding parameters_at
+returns c =
+    let r = c.result_of in
+    value_told c.parameters-told.ensures (to_z-of_z (record { sfits = r.type_inv }) ∙ r.ensures)

@@ -1,0 +1,13 @@
+-- `fields_of` is `fields_of`: no report, or each part of it.
+use mathlib.Core.Path.{sym, ap, ◌∙◌}
+use Rattle.state_bytes.specs.State.{fields_of}
+use Rattle.state_bytes.proofs.StateLaws.{fields_idle, fields_report}
+use Rattle.state_bytes.proofs.state.fields_of.Goals as goal
+
+pub returns-in-Idle : goal.returns-in-Idle
+returns-in-Idle c = fields_idle c.bounds_at.ensures c.unsent_of.ensures ∙ sym (ap fields_of c.in-Idle.is)
+
+pub returns-in-Reporting : goal.returns-in-Reporting
+returns-in-Reporting c =
+    let r = c.in-Reporting in
+    fields_report r.report c.bounds_of.ensures c.unsent_of-in-Reporting.ensures ∙ sym (ap fields_of r.is)

@@ -1,0 +1,6 @@
+-- Computed.
+use Rattle.theorems_handed_bytes.proofs.CaseLaws.{computed}
+use Rattle.theorems_handed_bytes.proofs.histories.computed.Goals as goal
+
+pub returns : goal.returns
+returns c = computed
