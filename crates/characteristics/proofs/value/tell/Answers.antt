@@ -11,5 +11,5 @@ returns-then-out-lt-LEAST_OUTPUT c = sym (told_short _ _ c.if-out-lt-LEAST_OUTPU
 pub returns : goal.returns
 returns c =
     let a = c.args in
-    let e : length a.t1 ≡ 4 = search rules in
-    rw (c.put.ensures, ← e) (sym (told_done a.t1 a.out.now c.if-out-lt-LEAST_OUTPUT.false))
+    let e : length a.value ≡ 4 = search rules in
+    rw (c.put.ensures, ← e) (sym (told_done a.value a.out.now c.if-out-lt-LEAST_OUTPUT.false))

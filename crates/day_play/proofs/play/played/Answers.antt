@@ -14,7 +14,7 @@ loop-i-init c = (omega arith, refl)
 
 pub loop-i-preserved : goal.loop-i-preserved
 loop-i-preserved c =
-    let day = c.args.t1 in
+    let day = c.args.day in
     let i = c.loop-i.i in
     let long : length day ≡ 78 = search rules in (
       omega arith,
@@ -25,7 +25,7 @@ loop-i-preserved c =
 
 pub returns : goal.returns
 returns c =
-    let day = c.args.t1 in
+    let day = c.args.day in
     let long : length day ≡ 78 = search rules in
     sym (played_end c.loop-i.ramp day c.loop-i.i (omega arith))
     ∙ c.loop-i.invariant.1

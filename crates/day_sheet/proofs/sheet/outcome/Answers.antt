@@ -12,7 +12,7 @@ use Rattle.day_sheet.proofs.sheet.outcome.Goals as goal
 pub returns-in_default : goal.returns-in_default
 returns-in_default c =
     refused_is c.args.c
-    (λ z e. miss (1 ∷ 2 ∷ 3 ∷ []) 0 tt (rw e at c.in_default.in_default-own.keys2))
+    (λ z e. c.in_default.not-To z e)
     c.carrying_number.ensures
 
 pub returns : goal.returns

@@ -14,12 +14,5 @@ invariant-loop-k l =
     × (page_text l.page ++ rest l.tags l.left l.left_base l.left_table l.right l.right_base l.right_table l.k
     ≡ page_text l.initial.page ++ lines_of l.tags l.left l.left_base l.left_table l.right l.right_base l.right_table)
 
--- eight tags, and two notes for each
 abbrev pub decreases-loop-k : goal.decreases-loop-k
 decreases-loop-k l = 8 - l.k
-
--- eight l.tags, and two notes for each
-record Eight (c : tie.«Start» invariant-loop decreases-loop) : Type 0 where
-  l.tags : length c.args.t1 ≡ 8
-  l.left : length c.args.t2 ≡ 8
-  l.right : length c.args.t5 ≡ 8

@@ -19,11 +19,12 @@ door c = c.table_rows-first.ensures ∙ rw c.room.ensures
 
 -- none of them failed, and a report runs
 runs : (c : Else-not-done)
+    → (let a = c.args in c.table_rows-first.result ≡ tables a.c a.t.now a.p a.out.now)
     → let a = c.args in
     Ready a.t.now a.p (length a.out.now) c.in-Reporting.report
-runs c =
+runs c d =
     ready _ _ _ _ _ c.in-Reporting.is
-    (table_all _ _ _ (ap done_b (sym (door c.?After-table_rows-first?)) ∙ sym c.done.ensures ∙ c.if-not-done.false))
+    (table_all _ _ _ (ap done_b (sym d) ∙ sym c.done.ensures ∙ c.if-not-done.false))
 
 pub returns-in_default : goal.returns-in_default
 returns-in_default c =
@@ -39,10 +40,10 @@ returns-then-not-done c =
     (notify_refused _ _ _ _ _ c.in-Reporting.is (ap done_b (sym (door (goal.at.returns-then-not-done c).After-table_rows-first)) ∙ sym c.done.ensures ∙ c.if-not-done.true))
 
 pub overflow_sub-p : goal.overflow_sub-p
-overflow_sub-p c = let k = runs (goal.at.overflow_sub-p c).Else-not-done in omega arith
+overflow_sub-p c = let k = runs (goal.at.overflow_sub-p c).Else-not-done (door (goal.at.overflow_sub-p c).After-table_rows-first) in omega arith
 
 pub say-requires : goal.say-requires
-say-requires c = let k = runs (goal.at.say-requires c).Else-not-done in (k.sound, omega arith, omega arith, omega arith, k.counter, k.left)
+say-requires c = let k = runs (goal.at.say-requires c).Else-not-done (door (goal.at.say-requires c).After-table_rows-first) in (k.sound, omega arith, omega arith, omega arith, k.counter, k.left)
 
 pub returns : goal.returns
 returns c =

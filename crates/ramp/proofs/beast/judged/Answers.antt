@@ -15,15 +15,15 @@ use Rattle.ramp.proofs.beast.judged.Goals.{After-age, After-age-2, In-To-right}
 pub returns-in_default : goal.returns-in_default
 returns-in_default c =
     let a = c.args in
-    left_refused a.window a.left-base a.right-base a.left a.right
-    (λ z e. miss (1 ∷ 2 ∷ 3 ∷ []) 0 tt (rw e at c.in_default.in_default-own.keys2))
+    left_refused a.window a.left_base a.right_base a.left a.right
+    (λ z e. c.in_default.not-To z e)
     c.carrying_number.ensures
 
 pub returns-in_default-right : goal.returns-in_default-right
 returns-in_default-right c =
     let a = c.args in
-    right_refused a.window a.left-base a.right-base a.left a.right c.in-To.l c.in-To.is
-    (λ z e. miss (1 ∷ 2 ∷ 3 ∷ []) 0 tt (rw e at c.in_default-right.in_default-right-own.keys2))
+    right_refused a.window a.left_base a.right_base a.left a.right c.in-To.l c.in-To.is
+    (λ z e. c.in_default-right.not-To z e)
     c.carrying_number-in_default-right.ensures
 
 -- what was carried, as the machine hands it on, and its size
@@ -40,18 +40,21 @@ pub age-requires-2 : goal.age-requires-2
 age-requires-2 c = rw (right_is (goal.at.age-requires-2 c).In-To-right) (c.requires.1 c.in-To-right.r c.in-To-right.is)
 
 -- the two ages
-left_age : (c : After-age) → to_z w64 (of_z w64 c.age.result) ≡ age_of c.args.left_base c.in-To.l
-left_age c =
-    to_z-of_z (record { sfits = c.age.type_inv }) ∙ c.age.ensures ∙ ap (age_of c.args.left_base) (left_is c.?In-To-right?)
+left_age : (c : After-age)
+    → (let z = c.in-To.l in to_z w64 (of_z w64 z) ≡ z)
+    → to_z w64 (of_z w64 c.age.result) ≡ age_of c.args.left_base c.in-To.l
+left_age c l =
+    to_z-of_z {w = w64} (record { sfits = c.age.type_inv }) ∙ c.age.ensures ∙ ap (age_of c.args.left_base) l
 
-right_age : (c : After-age-2) → to_z w64 (of_z w64 c.age-2.result) ≡ age_of c.args.right_base c.in-To-right.r
-right_age c =
-    to_z-of_z (record { sfits = c.age-2.type_inv }) ∙ c.age-2.ensures
-    ∙ ap (age_of c.args.right_base) (right_is c.?In-To-right?)
+right_age : (c : After-age-2)
+    → (let z = c.in-To-right.r in to_z w64 (of_z w64 z) ≡ z)
+    → to_z w64 (of_z w64 c.age-2.result) ≡ age_of c.args.right_base c.in-To-right.r
+right_age c r =
+    to_z-of_z {w = w64} (record { sfits = c.age-2.type_inv }) ∙ c.age-2.ensures ∙ ap (age_of c.args.right_base) r
 
 pub judge-requires : goal.judge-requires
 judge-requires c =
-    rw (left_age (goal.at.judge-requires c).After-age, right_age (goal.at.judge-requires c).After-age-2) (
+    rw (left_age (goal.at.judge-requires c).After-age (left_is (goal.at.judge-requires c).In-To-right), right_age (goal.at.judge-requires c).After-age-2 (right_is (goal.at.judge-requires c).In-To-right)) (
       age_small c.args.left_base c.in-To.l (omega arith) (c.requires.0 c.in-To.l c.in-To.is),
       age_small c.args.right_base c.in-To-right.r (omega arith) (c.requires.1 c.in-To-right.r c.in-To-right.is),
     )
@@ -60,5 +63,5 @@ pub returns : goal.returns
 returns c =
     let a = c.args in
     c.judge.ensures
-    ∙ rw (left_age (goal.at.returns c).After-age, right_age (goal.at.returns c).After-age-2)
-    (sym (both_carried a.window a.left-base a.right-base a.left a.right c.in-To.l c.in-To-right.r c.in-To.is c.in-To-right.is))
+    ∙ rw (left_age (goal.at.returns c).After-age (left_is (goal.at.returns c).In-To-right), right_age (goal.at.returns c).After-age-2 (right_is (goal.at.returns c).In-To-right))
+    (sym (both_carried a.window a.left_base a.right_base a.left a.right c.in-To.l c.in-To-right.r c.in-To.is c.in-To-right.is))

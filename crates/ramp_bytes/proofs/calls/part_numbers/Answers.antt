@@ -30,5 +30,5 @@ pub returns-in_default : goal.returns-in_default
 returns-in_default c =
     ap (λ (n : ℕ). n ∷ 0 ∷ 0 ∷ []) c.later_side-side.ensures
     ∙ no_numbers c.args.left.now c.args.right.now c.args.later
-    (λ n e. miss (2 ∷ 3 ∷ 4 ∷ []) 0 tt (rw e at c.in_default.in_default-own.keys3))
-    (λ n e. miss (2 ∷ 3 ∷ 4 ∷ []) 1 tt (rw e at c.in_default.in_default-own.keys3))
+    (λ n e. c.in_default.not-Left n e)
+    (λ n e. c.in_default.not-Right n e)

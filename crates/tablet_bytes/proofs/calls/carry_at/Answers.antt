@@ -2,6 +2,7 @@
 use mathlib.Core.Path.{ap, ◌∙◌}
 use lib.IntN.{pos}
 use mir.Facts.{to_z-of_z}
+use mir.Syntax.{w64}
 use Rattle.tablet_bytes.specs.Calls.{carrying}
 use Rattle.carry.specs.Stamp.{carrying_number}
 use Rattle.tablet_bytes.proofs.TabletLaws.{carry_told}
@@ -9,7 +10,7 @@ use Rattle.tablet_bytes.proofs.calls.carry_at.Goals as goal
 
 pub returns-in-To : goal.returns-in-To
 unfolding carrying_number
-returns-in-To c = ap (carrying (pos 0)) (to_z-of_z (record { sfits = c.in-To.known_told-1-own.given.0.1 })) ∙ carry_told _ _ _ c.args.carried.now c.carry.ensures c.in-To.is
+returns-in-To c = ap (carrying (pos 0)) (to_z-of_z {w = w64} (record { sfits = c.in-To.known_told-1-own.given.0.1 })) ∙ carry_told _ _ _ c.args.carried.now c.carry.ensures c.in-To.is
 
 pub returns-in-TableNotSound : goal.returns-in-TableNotSound
 unfolding carrying_number

@@ -18,16 +18,17 @@ unfolding joining_in
 tested c = c.takes.ensures (drop 3 c.args.s.now)
 
 does : (c : Else-not-takes)
+    → (let a = c.args in c.takes.result ≡ takes_b (joining_in a.s.now) a.note.now)
     → let a = c.args in takes_b (joining_in a.s.now) a.note.now ≡ true
-does c = sym (tested c.?After-takes?) ∙ c.if-not-takes.false
+does c t = sym t ∙ c.if-not-takes.false
 
 pub returns-then-not-takes : goal.returns-then-not-takes
 returns-then-not-takes c = in_refused _ _ (search rules) (sym (tested (goal.at.returns-then-not-takes c).After-takes) ∙ c.if-not-takes.true) c.clear.ensures
 
 pub take_in-requires : goal.take_in-requires
-take_in-requires c = (search rules, takes_reads _ _ (does (goal.at.take_in-requires c).Else-not-takes))
+take_in-requires c = (search rules, takes_reads _ _ (does (goal.at.take_in-requires c).Else-not-takes (tested (goal.at.take_in-requires c).After-takes)))
 
 pub returns : goal.returns
 returns c =
     let r = c.take_in in
-    rw (to_z-of_z (record { sfits = r.type_inv })) (r.ensures ∙ ap joined_bytes (sym (join_taken _ _ (does (goal.at.returns c).Else-not-takes))))
+    rw (to_z-of_z (record { sfits = r.type_inv })) (r.ensures ∙ ap joined_bytes (sym (join_taken _ _ (does (goal.at.returns c).Else-not-takes (tested (goal.at.returns c).After-takes)))))
