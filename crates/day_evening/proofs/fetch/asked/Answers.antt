@@ -8,7 +8,7 @@ use Rattle.day_evening.proofs.fetch.asked.Goals as goal
 pub returns : goal.returns
 returns c =
     let a = c.args in
-    asked_is a.clock a.t2
+    asked_is a.clock a.table
     (ap (λ (x : Outcome). x.reply.clock) c.record_access-reply.ensures)
     c.restart.ensures
     (ap (λ (b : Begun). b.table) c.start.ensures)

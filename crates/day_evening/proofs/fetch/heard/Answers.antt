@@ -15,7 +15,7 @@ fits : (c : After-notify-n) → c.notify-n.result.len ≤ length c.notify-n.new.
 fits c =
     let a = c.args in
     let long : length c.notify-n.new.out ≡ 20 = search rules in
-    let said : c.notify-n.result.len ≤ 20 = rw (ap (λ (x : Notice). x.reply.len) c.notify-n.ensures) (notice_fits a.f.clock a.t2 20 output) in
+    let said : c.notify-n.result.len ≤ 20 = rw (ap (λ (x : Notice). x.reply.len) c.notify-n.ensures) (notice_fits a.f.clock a.table 20 output) in
     omega arith
 
 pub returns-then-f : goal.returns-then-f
@@ -24,7 +24,7 @@ returns-then-f c = stays_closed c.args.f c.args.f c.if-f.true
 pub returns-then-n : goal.returns-then-n
 returns-then-n c =
     let a = c.args in
-    closing a.t2 a.f c.notify-n.result c.notify-n.new.out c.if-f.false c.notify-n.ensures c.if-n.true
+    closing a.table a.f c.notify-n.result c.notify-n.new.out c.if-f.false c.notify-n.ensures c.if-n.true
 
 pub slice_bounds-out-end : goal.slice_bounds-out-end
 slice_bounds-out-end c = fits (goal.at.slice_bounds-out-end c).After-notify-n
@@ -35,4 +35,4 @@ slice_bounds-join-end c = sym (length-take-le c.notify-n.result.len c.notify-n.n
 pub returns : goal.returns
 returns c =
     let a = c.args in
-    segment a.t2 a.f c.notify-n.result c.notify-n.new.out c.if-f.false c.notify-n.ensures c.if-n.false c.join-joined.ensures c.kept.ensures
+    segment a.table a.f c.notify-n.result c.notify-n.new.out c.if-f.false c.notify-n.ensures c.if-n.false c.join-joined.ensures c.kept.ensures

@@ -1,4 +1,5 @@
 -- `fault_of` of the clock that the state stands for, and the state settled by its reply.
+use mir.Syntax.{w32}
 use mir.Facts.{to_z-of_z}
 use Rattle.clock.specs.declared.state.Clock.{Clock}
 use Rattle.update.specs.Fault.{fault_of}
@@ -16,4 +17,4 @@ pub returns : goal.returns
 unfolding fault_at
 returns c =
     let a = c.args in
-    reply_settled a.state.now c.clock_of.ensures (λ (k : Clock). fault_of k a.table.now a.out.now) c.fault-reply.ensures (to_z-of_z (record { sfits = c.settle.type_inv })) c.settle.ensures
+    reply_settled a.state.now c.clock_of.ensures (λ (k : Clock). fault_of k a.table.now a.out.now) c.fault-reply.ensures (to_z-of_z {w = w32} (record { sfits = c.settle.type_inv })) c.settle.ensures

@@ -1,4 +1,5 @@
 -- `notify_of` of the clock that the state stands for, and the state settled by what was said.
+use mir.Syntax.{w32}
 use mir.Facts.{to_z-of_z}
 use Rattle.clock.specs.declared.state.Clock.{Clock}
 use Rattle.racp_notify.specs.Notify.{notify_of}
@@ -21,4 +22,4 @@ pub returns : goal.returns
 unfolding notify_at
 returns c =
     let a = c.args in
-    notice_settled a.state.now c.clock_of.ensures (λ (k : Clock). notify_of k a.table.now a.p a.out.now) c.notify.ensures c.reply_of-said.ensures a.table.now (to_z-of_z (record { sfits = c.settle.type_inv })) c.settle.ensures
+    notice_settled a.state.now c.clock_of.ensures (λ (k : Clock). notify_of k a.table.now a.p a.out.now) c.notify.ensures c.reply_of-said.ensures a.table.now (to_z-of_z {w = w32} (record { sfits = c.settle.type_inv })) c.settle.ensures

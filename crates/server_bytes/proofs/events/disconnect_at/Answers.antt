@@ -1,4 +1,5 @@
 -- `disconnect_of` of the clock that the state stands for, and the state settled by it.
+use mir.Syntax.{w32}
 use mir.Facts.{to_z-of_z}
 use Rattle.clock.specs.Events.{disconnect_of}
 use Rattle.clock.specs.declared.state.Clock.{Clock}
@@ -16,4 +17,4 @@ pub returns : goal.returns
 unfolding disconnect_at
 returns c =
     let a = c.args in
-    event_settled a.state.now c.clock_of.ensures (λ (k : Clock). disconnect_of k) c.disconnect-event.ensures (to_z-of_z (record { sfits = c.settle_event.type_inv })) c.settle_event.ensures
+    event_settled a.state.now c.clock_of.ensures (λ (k : Clock). disconnect_of k) c.disconnect-event.ensures (to_z-of_z {w = w32} (record { sfits = c.settle_event.type_inv })) c.settle_event.ensures

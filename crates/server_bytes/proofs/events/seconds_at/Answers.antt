@@ -1,4 +1,5 @@
 -- `seconds_of` of the clock that the state stands for, and the state settled by it.
+use mir.Syntax.{w32}
 use mir.Facts.{to_z-of_z}
 use Rattle.clock.specs.Events.{seconds_of}
 use Rattle.clock.specs.declared.state.Clock.{Clock}
@@ -16,4 +17,4 @@ pub returns : goal.returns
 unfolding seconds_at
 returns c =
     let a = c.args in
-    event_settled a.state.now c.clock_of.ensures (λ (k : Clock). seconds_of k a.n) c.seconds-event.ensures (to_z-of_z (record { sfits = c.settle_event.type_inv })) c.settle_event.ensures
+    event_settled a.state.now c.clock_of.ensures (λ (k : Clock). seconds_of k a.n) c.seconds-event.ensures (to_z-of_z {w = w32} (record { sfits = c.settle_event.type_inv })) c.settle_event.ensures

@@ -1,4 +1,5 @@
 -- `switches_of` of the clock that the state stands for, and the state settled by it.
+use mir.Syntax.{w32}
 use mir.Facts.{to_z-of_z}
 use Rattle.clock.specs.Events.{switches_of}
 use Rattle.clock.specs.declared.state.Clock.{Clock}
@@ -16,4 +17,4 @@ pub returns : goal.returns
 unfolding switches_at
 returns c =
     let a = c.args in
-    event_settled a.state.now c.clock_of.ensures (λ (k : Clock). switches_of k (on_b a.dtcp) (on_b a.racp) (on_b a.log)) c.switches-event.ensures (to_z-of_z (record { sfits = c.settle_event.type_inv })) c.settle_event.ensures
+    event_settled a.state.now c.clock_of.ensures (λ (k : Clock). switches_of k (on_b a.dtcp) (on_b a.racp) (on_b a.log)) c.switches-event.ensures (to_z-of_z {w = w32} (record { sfits = c.settle_event.type_inv })) c.settle_event.ensures

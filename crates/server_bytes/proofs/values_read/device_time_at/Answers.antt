@@ -1,5 +1,6 @@
 -- `device_time_of` of the clock that the state stands for, with its result.
 use mathlib.Core.Path.{ap, ◌∙◌}
+use mir.Syntax.{w32}
 use mir.Facts.{to_z-of_z}
 use native.Mathlib.Omega.{arith}
 use Rattle.clock.specs.declared.state.Clock.{Clock}
@@ -19,4 +20,4 @@ pub returns : goal.returns
 unfolding device_time_at
 returns c =
     let a = c.args in
-    reply_told (c.device_time-reply.ensures ∙ ap (λ (k : Clock). device_time_of k a.table.now a.out.now) c.clock_of.ensures) (to_z-of_z (record { sfits = c.result_of.type_inv }) ∙ c.result_of.ensures)
+    reply_told (c.device_time-reply.ensures ∙ ap (λ (k : Clock). device_time_of k a.table.now a.out.now) c.clock_of.ensures) (to_z-of_z {w = w32} (record { sfits = c.result_of.type_inv }) ∙ c.result_of.ensures)

@@ -1,5 +1,6 @@
 -- `feature_of`, with its result.
 use mathlib.Core.Path.{◌∙◌}
+use mir.Syntax.{w32}
 use mir.Facts.{to_z-of_z}
 use Rattle.server_bytes.specs.ValuesRead.{feature_at}
 use Rattle.characteristics.proofs.ReplyLaws.{feature_short}
@@ -13,4 +14,4 @@ pub returns : goal.returns
 unfolding feature_at
 returns c =
     let r = c.result_of in
-    value_told c.feature-value.ensures (to_z-of_z (record { sfits = r.type_inv }) ∙ r.ensures)
+    value_told c.feature-value.ensures (to_z-of_z {w = w32} (record { sfits = r.type_inv }) ∙ r.ensures)
