@@ -1,5 +1,5 @@
 //! The proved archive as a reader. It is code for another processor than this one may be, so it
-//! runs in a program of its own, tests/c/pipe.c, emulated or not, and calls go to it through a
+//! runs in a program of its own, tests/c/pipe.c, and calls go to it through a
 //! pipe: every lent buffer there and back, so that nothing of a call is left to that program.
 
 use crate::fetch::{Request, Told};
