@@ -24,7 +24,7 @@ returns-then-type_of-eq-TIME_FAULT c =
     sym (l.invariant.3 ∙ over_fault _ _ _ _ c.record_at-r.ensures (sym c.type_of.ensures ∙ c.if-type_of-eq-TIME_FAULT.true))
 
 -- after both calls of a turn: the sum with what its record adds
-turn : (c : After-moved )
+turn : (c : After-moved)
     → let l = c.loop-age in
     to_z w64 l.sum-bits +ℤ to_z w64 (of_z w64 c.moved.result) ≡ to_z w64 l.sum-bits +ℤ moved_by c.record_at-r.result
 turn c = rw (to_z-of_z (record { sfits = c.moved.type_inv }), c.moved.ensures)

@@ -21,8 +21,7 @@ eight : (c : Start) → Eight c
 eight c = record { tags = search rules; left = search rules; right = search rules }
 
 pub loop-k-init : goal.loop-k-init
-loop-k-init c =
-    (
+loop-k-init c = (
   omega arith,
   omega (arith, c.with_line-page.ensures.1, c.blank.ensures.1),
   refl,

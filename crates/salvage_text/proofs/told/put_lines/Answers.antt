@@ -14,10 +14,10 @@ use Rattle.std.proofs.Common.{rules}
 use Rattle.salvage_text.proofs.told.put_lines.Goals as goal
 use Rattle.salvage_text.proofs.told.put_lines.Goals.{After-entry_line}
 
-short : (c : After-entry_line ) → length (text_of c.entry_line.result) ≤ 53
+short : (c : After-entry_line) → length (text_of c.entry_line.result) ≤ 53
 short c = rw c.entry_line.ensures.0 c.entry_line.ensures.1
 
-room : (c : After-entry_line )
+room : (c : After-entry_line)
     → let l = c.loop-k in l.end + length (text_of c.entry_line.result) ≤ length l.out
 room c =
     let pre = c.requires.0 in omega (arith, short c, c.loop-k.invariant, c.loop-k-test.true, pre)

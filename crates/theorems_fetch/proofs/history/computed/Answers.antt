@@ -8,11 +8,11 @@ pub returns : goal.returns
 unfolding answers_after
 returns c =
     record {
-  fair = omega arith;
-  none_told = refl;
-  all_missing = refl;
-  one_missing = refl;
-  stayed = refl;
-  nothing_missing = refl;
-  none_held = refl;
-}
+      fair = omega arith;
+      none_told = refl;
+      all_missing = refl;
+      one_missing = refl;
+      stayed = refl;
+      nothing_missing = refl;
+      none_held = refl;
+    }
