@@ -1,7 +1,6 @@
 -- The three tests one after the other; a month's length is the step of the table there.
 use mathlib.Core.Path.{◌≡◌, sym, ◌∙◌}
 use mathlib.Core.Bool.{true}
-use borrow.Author.Tests.{not-true, not-false}
 use Rattle.calendar_dates.specs.Dates.{month_b}
 use Rattle.calendar_dates.proofs.DayLaws.{days_next}
 use Rattle.calendar_dates.proofs.DateLaws.{no_month, exists_by_length, step_length}

@@ -1,7 +1,6 @@
 -- A date that exists is its days and the second of its day.
 use mathlib.Core.Path.{◌≡◌, sym, ◌∙◌}
 use mathlib.Core.Bool.{true}
-use borrow.Author.Tests.{not-true, not-false}
 use Rattle.octets.proofs.Tests.{both_reads}
 use Rattle.calendar_dates.specs.Dates.{month_b, exists_b, seconds_to}
 use Rattle.calendar_dates.proofs.DateLaws.{exists_reads, reckoned, no_such_date}

@@ -1,6 +1,5 @@
 -- One pass: what was summed, carried over the records left, is the stamp carried over all; the sum stays within 64 bits by CarryLaws.
 use mathlib.Core.Path.{◌≡◌, sym, ◌∙◌}
-use Prim.Native.Nat.{◌+◌, ◌-◌}
 use lib.IntN.{◌+ℤ◌}
 use mir.Syntax.{w64}
 use mir.Val.{to_z, of_z}

@@ -3,8 +3,6 @@ use mathlib.Core.Path.{◌≡◌}
 use Prim.Native.Nat.{◌-◌, ◌≤◌}
 use lib.ListN.{drop}
 use lib.IntN.{pos}
-use mir.Syntax.{w64}
-use mir.Val.{to_z}
 use Rattle.table.specs.Table.{count, held}
 use Rattle.carry.specs.Stamp.{carried_over}
 use Rattle.carry.proofs.CarryLaws.{Within}

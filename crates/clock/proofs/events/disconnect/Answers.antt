@@ -1,6 +1,5 @@
 -- `disconnect` is `disconnect_of`: one law for each answer.
 use mathlib.Core.Path.{sym, ◌∙◌}
-use borrow.Author.Tests.{not-true, not-false}
 use Rattle.clock.specs.Events.{disconnected}
 use Rattle.clock.proofs.EventLaws.{disconnect_2, disconnect_done}
 use Rattle.clock.proofs.events.disconnect.Goals as goal

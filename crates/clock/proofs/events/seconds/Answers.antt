@@ -1,7 +1,6 @@
 -- `seconds` is `seconds_of`: one law for each answer.
 use mathlib.Core.Path.{◌≡◌, sym, ◌∙◌}
 use mathlib.Core.Bool.{true}
-use borrow.Author.Tests.{not-true, not-false}
 use Rattle.clock.specs.Obeys.{clock_b}
 use Rattle.clock.specs.Events.{with_base}
 use Rattle.clock.proofs.RuleLaws.{clock_reads}

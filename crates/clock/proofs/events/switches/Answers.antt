@@ -1,6 +1,5 @@
 -- `switches` is `switches_of`: one law for each answer.
 use mathlib.Core.Path.{sym, ◌∙◌}
-use borrow.Author.Tests.{not-true, not-false}
 use Rattle.clock.proofs.EventLaws.{switches_2, switches_done}
 use Rattle.clock.proofs.events.switches.Goals as goal
 

@@ -19,7 +19,7 @@ fits c =
     omega arith
 
 pub returns-then-f : goal.returns-then-f
-returns-then-f c = stays_closed c.args.f c.args.f c.if-f.true
+returns-then-f c = stays_closed c.args.table c.args.f c.if-f.true
 
 pub returns-then-n : goal.returns-then-n
 returns-then-n c =

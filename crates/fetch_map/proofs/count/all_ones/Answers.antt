@@ -1,5 +1,4 @@
 -- The ones of the words passed, and those of the rest, are all. Each word has at most 64.
-use Prim.Native.Nat.{◌-◌}
 use Rattle.octets.specs.Numbers.{at}
 use Rattle.fetch_map.proofs.MapLaws.{ones_step, ones_end, ones_most}
 use native.Mathlib.Omega.{arith}

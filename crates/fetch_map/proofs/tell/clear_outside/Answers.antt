@@ -1,5 +1,5 @@
 -- After w words the first w have their bits outside cleared, and the others are as they were.
-use Prim.Native.Nat.{ℕ, ◌<◌, ◌*◌, ◌-◌, ◌^◌}
+use Prim.Native.Nat.{ℕ, ◌<◌, ◌*◌, ◌^◌}
 use mathlib.Core.Path.{◌≡◌, refl, ap, ap₂, ◌∙◌}
 use mathlib.Core.List.{List}
 use lib.Bits.{bit_and}

@@ -1,5 +1,5 @@
 -- After k words the search has gone on by as many, and the rest leads to the same end. Where nothing is left, it has come to it.
-use Prim.Native.Nat.{◌<◌, ◌-◌, ◌+◌, ◌%◌}
+use Prim.Native.Nat.{◌<◌, ◌+◌, ◌%◌}
 use mathlib.Core.Path.{◌≡◌, refl, sym, ◌∙◌}
 use Rattle.fetch_propose.specs.Search.{left_of}
 use Rattle.fetch_propose.proofs.SearchLaws.{none_searched, word_within, word_less, word_same}

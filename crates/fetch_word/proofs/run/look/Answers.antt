@@ -1,6 +1,6 @@
 -- A run that has begun goes on; else the received numbers come before it, and where a missing one is among the bits, it begins there.
 use mathlib.Core.Path.{◌∙◌}
-use Prim.Native.Nat.{◌-◌, ◌≤◌}
+use Prim.Native.Nat.{◌≤◌}
 use Rattle.fetch_word.specs.Bits.{bit_b, row}
 use Rattle.fetch_word.proofs.BitLaws.{row_length}
 use Rattle.fetch_word.proofs.RunLaws.{received_most, look_on, look_all_received, look_run_begins}

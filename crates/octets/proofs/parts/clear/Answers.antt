@@ -1,5 +1,5 @@
 -- `clear` leaves zeros alone: after so many turns as many bytes are zero.
-use Prim.Native.Nat.{ℕ, ◌-◌}
+use Prim.Native.Nat.{ℕ}
 use mathlib.Core.Path.{◌≡◌, refl, ap, ◌∙◌}
 use mathlib.Core.List.{List, append-nil}
 use borrow.Author.Fill.{fill_more}

@@ -1,5 +1,4 @@
 -- `copy_each` leaves what it copied: after so many turns as many bytes are the source's.
-use Prim.Native.Nat.{◌-◌}
 use mathlib.Core.Path.{refl}
 use lib.ListN.{length-set}
 use Rattle.octets.proofs.Filling.{fill_more, fill_end}

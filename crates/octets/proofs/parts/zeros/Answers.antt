@@ -1,5 +1,4 @@
 -- `zeros` is `zeros_b`: at each turn the bytes passed or to zero exactly where the test of them holds.
-use Prim.Native.Nat.{◌-◌}
 use mathlib.Core.Path.{refl, sym, ◌∙◌}
 use Rattle.octets.proofs.Tests.{zeros_step, zeros_done}
 use Rattle.std.proofs.Common.{rules}

@@ -1,5 +1,5 @@
 -- What was summed and the figures of the records left are the table's together. So no sum is larger than the table's, which fits.
-use Rattle.std.proofs.Common.{◌-◌, ap, ◌∙◌, arith}
+use Rattle.std.proofs.Common.{ap, ◌∙◌, arith}
 use Rattle.table.specs.Table.{held}
 use Rattle.season_figures.specs.Figures.{sum_of, figures_in, in_widths}
 use Rattle.season_figures.specs.declared.figures.Figures.{Figures}

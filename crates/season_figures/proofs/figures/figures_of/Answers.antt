@@ -1,5 +1,5 @@
 -- A Time_Update gives its move, any other record a fault.
-use Rattle.std.proofs.Common.{◌-◌, sym, refl, ap, ◌∙◌, arith}
+use Rattle.std.proofs.Common.{sym, refl, ap, ◌∙◌, arith}
 use Rattle.season_figures.specs.Figures.{figures_of}
 use Rattle.season_figures.proofs.FigureLaws.{same_figures}
 use Rattle.season_figures.proofs.figures.figures_of.Goals as goal

@@ -1,5 +1,4 @@
 -- `same` is `same_b`: at each turn what is left is the same exactly where the whole is.
-use Prim.Native.Nat.{◌-◌}
 use mathlib.Core.Path.{refl, sym, ◌∙◌}
 use Rattle.octets.proofs.SameLaws.{same_step, same_differs, same_end}
 use Rattle.std.proofs.Common.{rules}

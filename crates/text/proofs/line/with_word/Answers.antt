@@ -1,6 +1,5 @@
 -- `with_word` puts down the word: after i turns the line has what fits of its text and the word's first i bytes.
 -- Each turn is one call more (fitted-then). Assumes nothing.
-use Prim.Native.Nat.{◌-◌}
 use mathlib.Core.Path.{◌∙◌}
 use native.Mathlib.Omega.{arith}
 use native.Mathlib.Numerals.{add-one}
