@@ -14,7 +14,7 @@ use Rattle.octets.specs.Parts.{over}
 use Rattle.octets.proofs.PartLaws.{length_over, take_over}
 use Rattle.octets.proofs.Tests.{false_by, both_reads, both_no, both_not}
 use Rattle.record.specs.Fields.{most_bytes}
-use Rattle.joining.specs.Joining.{empty, whole, inside, joining, blank, empty_joining, ranges_b, inside_b, first_bit, last_bit, counter_in, body, filled_b, placed_b, follows_b, standing, len_after, takes_b, ground, joined, taken_of, join_of, joined_in, Ranges, Takes}
+use Rattle.joining.specs.Joining.{empty, whole, inside, joining, blank, empty_joining, ranges_b, inside_b, first_bit, last_bit, counter_in, body, filled_b, placed_b, follows_b, standing, len_after, takes_b, laid_under, joined, taken_of, join_of, joined_in, Ranges, Takes}
 use Rattle.joining.specs.declared.joining.Answer.TheVariants.{More, Whole, Refused}
 use Rattle.joining.specs.declared.joining.Joining.{Joining}
 use Rattle.joining.specs.declared.joining.Joined.{Joined}
@@ -134,11 +134,11 @@ empty_bytes = refl
 
 -- the state after a notification that is taken
 abbrev pub after : ℕ → Joining → List ℕ → Joining
-after phase j n = joining phase ((counter_in n + 1) % 64) (len_after j n) (over (ground j) (standing j) (body n))
+after phase j n = joining phase ((counter_in n + 1) % 64) (len_after j n) (over (laid_under j) (standing j) (body n))
 
 -- the same from what the code has, field by field
 module _ (j : Joining) (n : List ℕ) {counter len : ℕ} {bytes : List ℕ} (c : counter ≡ (counter_in n + 1) % 64) (l : len ≡ len_after j n)
-    (b : bytes ≡ over (ground j) (standing j) (body n)) where
+    (b : bytes ≡ over (laid_under j) (standing j) (body n)) where
   pub taken_whole : last_bit n ≡ 1 → joined Whole (joining whole counter len bytes) ≡ taken_of j n
   unfolding taken_of
   taken_whole e = rw (c, l, b, eq-eqb (last_bit n) 1 e)
@@ -180,17 +180,17 @@ join_is j n = go (takes_b j n) (eqb (last_bit n) 1) refl refl
         rw (join_more j n h l) (goes_on (takes_reads j n h) l)
 
 -- what stands there before: the bytes so far inside a record, none at its start
-standing_part : (j : Joining) → take (standing j) (ground j) ≡ pick (inside_b j) (joined_in j) []
-unfolding standing ground
+standing_part : (j : Joining) → take (standing j) (laid_under j) ≡ pick (inside_b j) (joined_in j) []
+unfolding standing laid_under
 standing_part j = go (inside_b j)
   where
     go : (b : Bool) → take (pick b j.len 0) (pick b j.bytes blank) ≡ pick b (joined_in j) []
     go true = refl
     go false = refl
 
-length_ground : (j : Joining) → length j.bytes ≡ most_bytes → length (ground j) ≡ most_bytes
-unfolding ground
-length_ground j e = go (inside_b j)
+length_laid_under : (j : Joining) → length j.bytes ≡ most_bytes → length (laid_under j) ≡ most_bytes
+unfolding laid_under
+length_laid_under j e = go (inside_b j)
   where
     go : (b : Bool) → length (pick b j.bytes blank) ≡ most_bytes
     go true = e
@@ -200,11 +200,11 @@ module _ (phase : ℕ) (j : Joining) (n : List ℕ) (t : Takes j n) where
   -- "The record builds up in that state."
   pub record_after : length j.bytes ≡ most_bytes → joined_in (after phase j n) ≡ pick (inside_b j) (joined_in j) [] ++ body n
   record_after e =
-      take_over (ground j) (standing j) (body n) (omega (arith, length_ground j e))
+      take_over (laid_under j) (standing j) (body n) (omega (arith, length_laid_under j e))
       ∙ ap (λ (l : List ℕ). l ++ body n) (standing_part j)
 
   pub bytes_after : length j.bytes ≡ most_bytes → length (after phase j n).bytes ≡ most_bytes
-  bytes_after e = length_over (ground j) (standing j) (body n) (omega (arith, length_ground j e)) ∙ length_ground j e
+  bytes_after e = length_over (laid_under j) (standing j) (body n) (omega (arith, length_laid_under j e)) ∙ length_laid_under j e
 
   pub ranges_after : phase ≤ inside → (phase ≡ empty → ⊥) → Ranges (after phase j n)
   ranges_after p ne =

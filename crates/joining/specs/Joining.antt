@@ -82,8 +82,8 @@ takes_b j n =
     (leb (len_after j n) most_bytes))))
 
 -- a first segment clears the bytes, a later one keeps those it does not write
-unfoldable pub ground : Joining → List ℕ
-ground j = pick (inside_b j) j.bytes blank
+unfoldable pub laid_under : Joining → List ℕ
+laid_under j = pick (inside_b j) j.bytes blank
 
 abbrev pub joined : Answer → Joining → Joined
 joined a j = record { answer = a; joining = j }
@@ -92,7 +92,7 @@ unfoldable pub taken_of : Joining → List ℕ → Joined
 taken_of j n =
     let ended = eqb (last_bit n) 1 in
     joined (pick ended Whole More)
-    (joining (pick ended whole inside) ((counter_in n + 1) % 64) (len_after j n) (over (ground j) (standing j) (body n)))
+    (joining (pick ended whole inside) ((counter_in n + 1) % 64) (len_after j n) (over (laid_under j) (standing j) (body n)))
 
 -- "10 empties the joining state"
 unfoldable pub join_of : Joining → List ℕ → Joined

@@ -4,7 +4,7 @@ ghost use Rattle.std.specs.Prelude.{◌≡◌, List, [], ℕ, ◌+◌, ◌/◌, 
 ghost use Rattle.octets.specs.Choice.{pick, both as Choice·both};
 ghost use Rattle.octets.specs.Parts.{over};
 ghost use Rattle.record.specs.Fields.{most_bytes};
-ghost use Rattle.joining.specs.Joining.{joining, empty_joining, ranges_b, body, placed_b, follows_b, standing as Joining·standing, len_after, takes_b, ground, Takes, taken_of, join_of, joining_number};
+ghost use Rattle.joining.specs.Joining.{joining, empty_joining, ranges_b, body, placed_b, follows_b, standing as Joining·standing, len_after, takes_b, laid_under, Takes, taken_of, join_of, joining_number};
 
 use octets::parts::{clear, put};
 use record::kinds::MOST_BYTES;
@@ -149,7 +149,7 @@ pub fn takes(phase: u8, counter: u8, len: u8, note: &[u8]) -> bool
 // A first segment clears the bytes, a later one keeps those it does not write.
 fn begin(bytes: &mut [u8], phase: u8)
     requires { length bytes.old ≡ most_bytes }
-    ensures { (c l : ℕ) → bytes.new ≡ ground (joining phase c l bytes.old) }
+    ensures { (c l : ℕ) → bytes.new ≡ laid_under (joining phase c l bytes.old) }
 {
     if phase == INSIDE {
         return;
@@ -160,7 +160,7 @@ fn begin(bytes: &mut [u8], phase: u8)
 // A notification's body laid over the record's bytes, after those that stand there already.
 pub fn lay_body(bytes: &mut [u8], phase: u8, len: u8, note: &[u8])
     requires { (length bytes.old ≡ most_bytes) × ((1 ≤ length note.now) × (len_after (joining phase 0 len bytes.old) note.now ≤ most_bytes)) }
-    ensures { (c : ℕ) → let j = joining phase c len bytes.old in bytes.new ≡ over (ground j) (Joining·standing j) (body note.now) }
+    ensures { (c : ℕ) → let j = joining phase c len bytes.old in bytes.new ≡ over (laid_under j) (Joining·standing j) (body note.now) }
 {
     begin(bytes, phase);
     put(bytes, standing(phase, len), &note[1..]);

@@ -36,7 +36,7 @@ use Rattle.racp_access.specs.Report.{first_number, left_at, left_from}
 use Rattle.racp_access.specs.Report as reports
 use Rattle.racp_access.specs.Access.{access_rows, accessed, begun_of, aborted_of, accessed_of, access_of}
 use Rattle.racp_notify.specs.Notify.{room_b, notify_rows, header_of, segment_of, left_after, closing_of, said_of, noticed, running_notice, notify_of}
-use Rattle.joining.specs.Joining.{empty_joining, ranges_b, filled_b, placed_b, follows_b, standing, takes_b, ground, taken_of, join_of}
+use Rattle.joining.specs.Joining.{empty_joining, ranges_b, filled_b, placed_b, follows_b, standing, takes_b, laid_under, taken_of, join_of}
 use Rattle.keep.specs.Keep.{numbered, record_kept, keep_of, keeping_number}
 use Rattle.carry.specs.Stamp.{later_of, moved_by, carried_over, carried_from, carry_of}
 use Rattle.carry.specs.Stamp as carries
@@ -58,7 +58,7 @@ the_ramp = played_of opened_of the_day
 
 -- the text of its sheet
 unfoldable pub the_sheet : List ℕ
-unfolding the_ramp sheet_of evening_of lines_of the_tags fetched_of finished_of report_of heard_all heard_of kept_in stored_in keep_of record_kept numbered keeping_number sight_of ruling_of evenings.asked_of access_of access_rows accessed begun_of aborted_of accessed_of request_of asked_of abort_of requests.filter_operand operand_bytes typed_b filter_at code_of code_bytes count_bytes first_number left_at left_from first_from next_match matching_from matching notify_of notify_rows room_b header_of segment_of left_after closing_of said_of noticed running_notice reports.first_bytes empty_joining ranges_b filled_b placed_b follows_b standing takes_b ground taken_of join_of read_of carry_of carried_from carried_over moved_by later_of carries.carrying_number one_beast_of beast_by verdict_of carried_or judge_of within_b age_of tag_line ruling_text verdict_text verdict_number pair_text apart_text gap shown_text carried_of outcome_of signed_of noted_of time_of_day two_digits decimal digits_up_to
+unfolding the_ramp sheet_of evening_of lines_of the_tags fetched_of finished_of report_of heard_all heard_of kept_in stored_in keep_of record_kept numbered keeping_number sight_of ruling_of evenings.asked_of access_of access_rows accessed begun_of aborted_of accessed_of request_of asked_of abort_of requests.filter_operand operand_bytes typed_b filter_at code_of code_bytes count_bytes first_number left_at left_from first_from next_match matching_from matching notify_of notify_rows room_b header_of segment_of left_after closing_of said_of noticed running_notice reports.first_bytes empty_joining ranges_b filled_b placed_b follows_b standing takes_b laid_under taken_of join_of read_of carry_of carried_from carried_over moved_by later_of carries.carrying_number one_beast_of beast_by verdict_of carried_or judge_of within_b age_of tag_line ruling_text verdict_text verdict_number pair_text apart_text gap shown_text carried_of outcome_of signed_of noted_of time_of_day two_digits decimal digits_up_to
 the_sheet = evening_of the_tags the_ramp
 
 -- a text's lines in a row

@@ -11,7 +11,7 @@ use lib.ListN.{length, take, drop, set, replicate, length-drop, drop_of_length-l
 use lib.Seq.{take_all, drop_at, length-take-le}
 use Rattle.octets.specs.Numbers.{at}
 use Rattle.octets.specs.Parts.{over}
-use Rattle.joining.specs.Joining.{whole, inside, joining, last_bit, counter_in, body, standing, len_after, takes_b, ground, taken_of, join_of, joining_number, empty_joining}
+use Rattle.joining.specs.Joining.{whole, inside, joining, last_bit, counter_in, body, standing, len_after, takes_b, laid_under, taken_of, join_of, joining_number, empty_joining}
 use Rattle.joining.proofs.JoiningLaws.{taken_whole, taken_more, join_refused}
 use Rattle.joining.specs.declared.joining.Answer.TheVariants.{Refused}
 use Rattle.joining.specs.declared.joining.Joining.{Joining}
@@ -45,12 +45,12 @@ back_is s b h =
 
 -- taken: the body laid and the three numbers set, with the last bit or without
 module _ (s n : List ℕ) (size : length s ≡ joining_bytes) {counter len : ℕ} {b : List ℕ} (c : counter ≡ (counter_in n + 1) % 64)
-    (l : len ≡ len_after (joining_in s) n) (e : b ≡ over (ground (lent s)) (standing (lent s)) (body n)) where
-  laid : drop 3 (back s b) ≡ over (ground (joining_in s)) (standing (joining_in s)) (body n)
+    (l : len ≡ len_after (joining_in s) n) (e : b ≡ over (laid_under (lent s)) (standing (lent s)) (body n)) where
+  laid : drop 3 (back s b) ≡ over (laid_under (joining_in s)) (standing (joining_in s)) (body n)
   laid =
       back_is s b (omega arith)
       ∙ e
-      ∙ ap (λ (j : Joining). over (ground j) (standing j) (body n)) (lent_is s)
+      ∙ ap (λ (j : Joining). over (laid_under j) (standing j) (body n)) (lent_is s)
 
   pub in_whole : last_bit n ≡ 1 → {z : ℤ} {x : List ℕ} → z ≡ pos len → x ≡ whole ∷ counter ∷ len ∷ drop 3 (back s b)
       → joined z x ≡ joined_bytes (taken_of (joining_in s) n)

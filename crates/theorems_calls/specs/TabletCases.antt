@@ -6,7 +6,7 @@ use Rattle.rules.specs.Fields.{base_b, zone_b, dst_b, source_b, status_b, bits_b
 use Rattle.record_write.specs.Layout.{update_read, fault_read, record_of, sized_b, shape_b}
 use Rattle.record_read.specs.Reading.{update_b, fault_b, record_b, well_formed_b, read_of, reading_number as reading_number}
 use Rattle.record.specs.Fields.{most_bytes}
-use Rattle.joining.specs.Joining.{empty, whole, inside, joining, blank, empty_joining, ranges_b, filled_b, placed_b, follows_b, standing, takes_b, ground, taken_of, join_of, joining_number, joined_in}
+use Rattle.joining.specs.Joining.{empty, whole, inside, joining, blank, empty_joining, ranges_b, filled_b, placed_b, follows_b, standing, takes_b, laid_under, taken_of, join_of, joining_number, joined_in}
 use Rattle.joining.specs.Reading.{read_joined_of}
 use Rattle.joining.specs.declared.joining.Answer.{Answer}
 use Rattle.joining.specs.declared.joining.Answer.TheVariants.{More, Whole, Refused}
@@ -55,7 +55,7 @@ refused j n =
 
 -- `join_of` with all that it cites laid open, for the checker to compute
 unfoldable pub joins : Joining → List ℕ → Joined
-unfolding join_of takes_b filled_b ranges_b placed_b follows_b standing taken_of ground over empty_joining
+unfolding join_of takes_b filled_b ranges_b placed_b follows_b standing taken_of laid_under over empty_joining
 joins j n = join_of j n
 
 unfoldable pub seen : Joined → Outcome

@@ -14,7 +14,7 @@ use Rattle.octets.specs.Parts.{over}
 use Rattle.octets.proofs.Tests.{both_yes}
 use Rattle.octets.proofs.PartLaws.{length_over}
 use Rattle.racp_notify.specs.Notify.{bit, header_of, segment_of, last_b}
-use Rattle.joining.specs.Joining.{joining, empty_joining, ranges_b, inside_b, filled_b, placed_b, follows_b, standing, takes_b, ground, joined, taken_of, join_of, joined_in}
+use Rattle.joining.specs.Joining.{joining, empty_joining, ranges_b, inside_b, filled_b, placed_b, follows_b, standing, takes_b, laid_under, joined, taken_of, join_of, joined_in}
 use Rattle.joining.specs.declared.joining.Answer.TheVariants as answers
 use Rattle.joining.specs.declared.joining.Answer.TheVariants.{Whole}
 use Rattle.joining.specs.declared.joining.Joining.{Joining}
@@ -62,7 +62,7 @@ module _ (j : Joining) (f l : Bool) (k : ℕ) (body : List ℕ) where
 
   join_is : takes_b j (header_of f l k ∷ body) ≡ true
       → join_of j (header_of f l k ∷ body)
-      ≡ joined (pick l Whole answers.More) (joining (pick l 1 2) ((k + 1) % 64) (standing j + length body) (over (ground j) (standing j) body))
+      ≡ joined (pick l Whole answers.More) (joining (pick l 1 2) ((k + 1) % 64) (standing j + length body) (over (laid_under j) (standing j) body))
   unfolding join_of taken_of
   join_is h = rw (h, header_last f l k, header_counter f l k, ended l)
 
@@ -70,18 +70,18 @@ module _ (j : Joining) (f l : Bool) (k : ℕ) (body : List ℕ) where
 pub record Synced (b : List ℕ) (sent k : ℕ) (j : Joining) : Type 0 where
   pub inside : inside_b j ≡ not (eqb sent 0)
   pub stands : standing j ≡ sent
-  pub bytes : take sent (ground j) ≡ take sent b
-  pub long : length (ground j) ≡ 45
+  pub bytes : take sent (laid_under j) ≡ take sent b
+  pub long : length (laid_under j) ≡ 45
   pub follows : either (eqb j.phase 0) (eqb k j.counter) ≡ true
   pub ranges : ranges_b j ≡ true
 
 pub synced_empty : (b : List ℕ) (k : ℕ) → Synced b 0 k empty_joining
-unfolding empty_joining standing ground ranges_b
+unfolding empty_joining standing laid_under ranges_b
 synced_empty b k = record { inside = refl; stands = refl; bytes = refl; long = refl; follows = refl; ranges = refl }
 
 -- after a whole record any record may follow
 synced_whole : (b bytes : List ℕ) (k len : ℕ) → k < 64 → 1 ≤ len → len ≤ 45 → Synced b 0 k (joining 1 k len bytes)
-unfolding standing ground ranges_b
+unfolding standing laid_under ranges_b
 synced_whole b bytes k len hk h1 h2 =
     record {
       inside = refl;
@@ -94,7 +94,7 @@ synced_whole b bytes k len hk h1 h2 =
 
 synced_inside : (b bytes : List ℕ) (k sent : ℕ) → k < 64 → 1 ≤ sent → sent ≤ 45 → length bytes ≡ 45 → take sent bytes ≡ take sent b
     → Synced b sent k (joining 2 k sent bytes)
-unfolding standing ground ranges_b
+unfolding standing laid_under ranges_b
 synced_inside b bytes k sent hk h1 h2 hl hb =
     record {
       inside = ap not (sym (ne_eqb sent 0 (λ e. omega arith)));
@@ -114,7 +114,7 @@ module _ (b : List ℕ) (sent k q : ℕ) (j : Joining) (few : length b ≤ 45) (
   body = take q (drop sent b)
 
   abbrev bytes : List ℕ
-  bytes = over (ground j) sent body
+  bytes = over (laid_under j) sent body
 
   sizes : (1 ≤ length body) × (sent + length body ≤ length b)
   sizes =
@@ -126,16 +126,16 @@ module _ (b : List ℕ) (sent k q : ℕ) (j : Joining) (few : length b ≤ 45) (
   bytes_are : take (sent + length body) bytes ≡ take (sent + q) b
   unfolding over
   bytes_are =
-      let e : length (take sent (ground j)) ≡ sent = length-take-le sent (ground j) (omega (arith, s.long)) in
-      let front = take sent (ground j) in
+      let e : length (take sent (laid_under j)) ≡ sent = length-take-le sent (laid_under j) (omega (arith, s.long)) in
+      let front = take sent (laid_under j) in
       let n : length (front ++ body) ≡ sent + length body = length-append front body ∙ ap (λ (m : ℕ). m + length body) e in
-      ap (take (sent + length body)) (sym (append_assoc front body (drop (sent + length body) (ground j))))
-      ∙ take_at (front ++ body) (drop (sent + length body) (ground j)) (sent + length body) n
+      ap (take (sent + length body)) (sym (append_assoc front body (drop (sent + length body) (laid_under j))))
+      ∙ take_at (front ++ body) (drop (sent + length body) (laid_under j)) (sent + length body) n
       ∙ ap (λ (x : List ℕ). x ++ body) s.bytes
       ∙ sym (take-add sent q b)
 
   bytes_long : length bytes ≡ 45
-  bytes_long = length_over (ground j) sent body (omega (arith, s.long, sizes.1)) ∙ s.long
+  bytes_long = length_over (laid_under j) sent body (omega (arith, s.long, sizes.1)) ∙ s.long
 
   join_segment : join_of j (segment_of q sent k b)
       ≡ joined (pick (last_b q sent b) Whole answers.More) (joining (pick (last_b q sent b) 1 2) ((k + 1) % 64) (sent + length body) bytes)

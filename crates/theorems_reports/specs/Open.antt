@@ -36,7 +36,7 @@ use Rattle.racp_access.specs.Report.{first_number, left_at, left_from}
 use Rattle.racp_access.specs.Report as reports
 use Rattle.racp_access.specs.Access.{access_rows, accessed, begun_of, aborted_of, accessed_of, access_of}
 use Rattle.racp_notify.specs.Notify.{room_b, notify_rows, header_of, segment_of, left_after, closing_of, said_of, noticed, running_notice, notify_of}
-use Rattle.joining.specs.Joining.{empty_joining, ranges_b, filled_b, placed_b, follows_b, standing, takes_b, ground, taken_of, join_of}
+use Rattle.joining.specs.Joining.{empty_joining, ranges_b, filled_b, placed_b, follows_b, standing, takes_b, laid_under, taken_of, join_of}
 use Rattle.joining.specs.declared.joining.Joining.{Joining}
 use Rattle.theorems_reports.specs.World.{World, Call, step_by, step_of}
 use Rattle.theorems_reports.specs.Joined.{Got, join_all}
@@ -67,6 +67,6 @@ unfoldable pub joining_open : Joining → List (List ℕ) → Got
 unfolding zeros_b
     base_b zone_b dst_b source_b status_b bits_b
     update_read fault_read record_of sized_b shape_b update_b fault_b record_b well_formed_b read_of
-    empty_joining ranges_b filled_b placed_b follows_b standing takes_b ground taken_of join_of
+    empty_joining ranges_b filled_b placed_b follows_b standing takes_b laid_under taken_of join_of
     join_all
 joining_open = join_all
