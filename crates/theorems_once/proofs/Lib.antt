@@ -1,1 +1,14 @@
 pub mod Whole
+pub mod OfRecords
+pub mod OfTables
+pub mod OfServer
+pub mod OfBehind
+pub mod OfTablet
+pub mod OfBoundary
+pub mod OfCalendar
+pub mod OfSalvage
+pub mod OfRamp
+pub mod OfFetch
+pub mod OfPrograms
+pub mod WeakerPromises
+pub mod OfEntries

@@ -1,14 +1,1 @@
 pub mod Only
-pub mod OfRecords
-pub mod OfTables
-pub mod OfServer
-pub mod OfBehind
-pub mod OfTablet
-pub mod OfBoundary
-pub mod OfCalendar
-pub mod OfSalvage
-pub mod OfRamp
-pub mod OfFetch
-pub mod OfPrograms
-pub mod Weaker
-pub mod OfEntries

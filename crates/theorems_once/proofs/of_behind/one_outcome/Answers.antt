@@ -1,9 +1,10 @@
 -- Two outcomes that meet one equation are one.
 use mathlib.Core.Path.{refl, sym, ◌∙◌}
+use Rattle.theorems_once.proofs.OfBehind.{OneOutcome}
 use Rattle.theorems_once.proofs.of_behind.one_outcome.Goals as goal
 
-pub returns : goal.returns
-returns c =
+theorem : OneOutcome
+theorem =
     record {
       new_reader_lem = λ κs a x y u v h p q. (p ∙ sym q, refl);
       all_off_lem = λ κs a x y u v h p q. (p ∙ sym q, refl);
@@ -34,3 +35,6 @@ returns c =
       count_bytes_lem = λ κs a x y u v h p q. (p ∙ sym q, refl);
       left_from_lem = λ κs a x y u v h p q. (p ∙ sym q, refl);
     }
+
+pub returns : goal.returns
+returns c = let holds : OneOutcome = theorem in tt

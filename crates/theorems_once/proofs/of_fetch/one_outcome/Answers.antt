@@ -1,10 +1,11 @@
 -- Two outcomes that meet one equation are one: those by value by that alone, those of lent words and numbers by the parts of the whole (`split`).
 use mathlib.Core.Path.{refl, sym, ◌∙◌}
 use Rattle.theorems_once.proofs.Whole.{split}
+use Rattle.theorems_once.proofs.OfFetch.{OneOutcome}
 use Rattle.theorems_once.proofs.of_fetch.one_outcome.Goals as goal
 
-pub returns : goal.returns
-returns c =
+theorem : OneOutcome
+theorem =
     record {
       below = λ κs a x y u v h p q. (p ∙ sym q, refl);
       with_bit_lem = λ κs a x y u v h p q. (p ∙ sym q, refl);
@@ -24,3 +25,6 @@ returns c =
       take_at = (λ κs a. tt, λ κs a x y u v h p q. split p q (λ w. w.result) (λ w. (w.map, (tt, (tt, tt)))));
       received_at_lem = (λ κs a. tt, λ κs a x y u v h p q. (p ∙ sym q, refl));
     }
+
+pub returns : goal.returns
+returns c = let holds : OneOutcome = theorem in tt

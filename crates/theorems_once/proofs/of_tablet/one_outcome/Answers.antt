@@ -2,10 +2,11 @@
 use mathlib.Core.Path.{refl, sym, ◌∙◌}
 use mathlib.Core.List.{[]}
 use Rattle.theorems_once.proofs.Whole.{split}
+use Rattle.theorems_once.proofs.OfTablet.{OneOutcome}
 use Rattle.theorems_once.proofs.of_tablet.one_outcome.Goals as goal
 
-pub returns : goal.returns
-returns c =
+theorem : OneOutcome
+theorem =
     record {
       join = (λ κs a. tt, λ κs a x y u v h p q. (p ∙ sym q, refl));
       takes = λ κs a x y u v h p q. (p [] ∙ sym (q []), refl);
@@ -20,3 +21,6 @@ returns c =
       carry = (λ κs a. tt, λ κs a x y u v h p q. (p ∙ sym q, refl));
       carried_number = λ κs a x y u v h p q. (p ∙ sym q, refl);
     }
+
+pub returns : goal.returns
+returns c = let holds : OneOutcome = theorem in tt

