@@ -12,8 +12,7 @@ use Rattle.rules.specs.Fields.{last_base_time}
 use Rattle.calendar_months.specs.Months.{days_in, month_length, days_before}
 use Rattle.calendar_dates.specs.Dates.{MonthDay, month_day, day_after, date_on, date_of_seconds, month_b, day_b, time_of_day_b, exists_b, month_number, seconds_to, seconds_of_date}
 use Rattle.calendar_dates.specs.declared.dates.Date.{Date}
-use Rattle.calendar_dates.specs.declared.dates.Dated.TheVariants.{On, Outside}
-use Rattle.calendar_dates.specs.declared.dates.Reckoned.TheVariants.{Seconds, NoSuchDate}
+use Rattle.std.proofs.Common.{Some, None}
 use Rattle.calendar_dates.proofs.DayLaws.{LiesIn, near, days_next, found}
 
 pub record Month (d : Date) : Type 0 where
@@ -112,19 +111,19 @@ module _ (d : Date) (m : month_b d ≡ true) where
   unfolding exists_b day_b
   exists_by_length e = rw (e, m)
 
-pub dated_in : (s : ℕ) → s ≤ last_base_time → date_of_seconds s ≡ On (date_on (day_after (s / 86400)) (s % 86400))
+pub dated_in : (s : ℕ) → s ≤ last_base_time → date_of_seconds s ≡ Some (date_on (day_after (s / 86400)) (s % 86400))
 unfolding date_of_seconds
 dated_in s h = rw (le-leb s last_base_time h)
 
-pub dated_outside : (s : ℕ) → last_base_time < s → date_of_seconds s ≡ Outside
+pub dated_outside : (s : ℕ) → last_base_time < s → date_of_seconds s ≡ None
 unfolding date_of_seconds
 dated_outside s h = rw (lt-leb s last_base_time h)
 
-pub reckoned : (d : Date) → exists_b d ≡ true → seconds_of_date d ≡ Seconds (seconds_to d)
+pub reckoned : (d : Date) → exists_b d ≡ true → seconds_of_date d ≡ Some (seconds_to d)
 unfolding seconds_of_date
 reckoned d h = rw h
 
-pub no_such_date : (d : Date) → exists_b d ≡ false → seconds_of_date d ≡ NoSuchDate
+pub no_such_date : (d : Date) → exists_b d ≡ false → seconds_of_date d ≡ None
 unfolding seconds_of_date
 no_such_date d h = rw h
 
@@ -143,9 +142,9 @@ module _ (s k : ℕ) (few : s ≤ last_base_time) (h : k < 1200) (l : LiesIn (s 
   abbrev pub its_date : Date
   its_date = date_on (month_day k (s / 86400 - days_before k + 1)) (s % 86400)
 
-  pub dated : date_of_seconds s ≡ On its_date
+  pub dated : date_of_seconds s ≡ Some its_date
   dated =
-      dated_in s few ∙ ap (λ (m : MonthDay). On (date_on m (s % 86400))) (found (s / 86400) k h l.from l.before)
+      dated_in s few ∙ ap (λ (m : MonthDay). Some (date_on m (s % 86400))) (found (s / 86400) k h l.from l.before)
 
   day_of_month : s / 86400 - days_before k < month_length k
   day_of_month = omega (arith, days_next k)
@@ -189,7 +188,7 @@ module _ (d : Date) (e : Exists d) where
   lies : LiesIn (seconds_to d / 86400) (month_number d)
   lies = record { from = omega (arith, day_back); before = omega (arith, day_back, days) }
 
-  pub seconds_back : date_of_seconds (seconds_to d) ≡ On d
+  pub seconds_back : date_of_seconds (seconds_to d) ≡ Some d
   unfolding date_on
   seconds_back =
       let k = month_number d in
@@ -197,5 +196,5 @@ module _ (d : Date) (e : Exists d) where
       let t = e.of_time in
       let r = rest_back in
       dated (seconds_to d) k seconds_in_lem (number_small d m) lies
-      ∙ ap On
+      ∙ ap Some
       (date_is d (number_year d m) (number_month d m) (omega (arith, day_back, e.of_day.from)) (omega (arith, r, t)) (omega (arith, r, t)) (omega (arith, r, t)))

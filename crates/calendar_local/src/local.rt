@@ -1,63 +1,48 @@
 // A record's local time (change request E4).
 ghost use Rattle.std.specs.Prelude.{◌≡◌, ◌+◌, ◌*◌};
-ghost use Rattle.calendar_months.specs.Months.{month_starts};
 ghost use Rattle.calendar_local.specs.Local.{in_zone, local_time, local_of, local_date};
 
-use calendar_dates::dates::{Dated, date_of_seconds};
+use calendar_dates::dates::{Date, date_of_seconds};
 use record::kinds::Record;
 
 const QUARTER_HOUR: u64 = 900;
 
-// Seconds since 2000-01-01 by local time; or that it is not known, or was before 2000.
-#[derive(Clone, Copy)]
-pub enum LocalTime {
-    At(u64),
-    Unknown,
-}
-
 // The zone is kept as its byte: 0 to 127 as they stand, the others are 256 more than the zone.
-fn in_zone(base: u32, zone: u8, dst: u8) -> LocalTime
+#[tactic(auto, unfolding(crate::specs::Local::in_zone))]
+fn in_zone(base: u32, zone: u8, dst: u8) -> Option<u64>
     ensures { result ≡ in_zone (base + 900 * dst) zone }
 {
     let seconds = base as u64 + QUARTER_HOUR * dst as u64;
     if zone < 128 {
-        return LocalTime::At(seconds + QUARTER_HOUR * zone as u64);
+        return Some(seconds + QUARTER_HOUR * zone as u64);
     }
-    let west = QUARTER_HOUR * (256 - zone as u64);
-    if west <= seconds {
-        LocalTime::At(seconds - west)
-    } else {
-        LocalTime::Unknown
-    }
+    seconds.checked_sub(QUARTER_HOUR * (256 - zone as u64))
 }
 
-fn local_time(base: u32, zone: u8, dst: u8) -> LocalTime
+#[tactic(auto, unfolding(crate::specs::Local::local_time))]
+fn local_time(base: u32, zone: u8, dst: u8) -> Option<u64>
     ensures { result ≡ local_time base zone dst }
 {
-    if zone == 128 {
-        return LocalTime::Unknown;
-    }
-    if dst == 255 {
-        return LocalTime::Unknown;
+    if zone == 128 || dst == 255 {
+        return None;
     }
     in_zone(base, zone, dst)
 }
 
-pub fn local_of(r: Record) -> LocalTime
+// Seconds since 2000-01-01 by local time; none where it is not known, or was before 2000.
+#[tactic(auto, unfolding(crate::specs::Local::local_of))]
+pub fn local_of(r: Record) -> Option<u64>
     ensures { result ≡ local_of r }
 {
     match r {
         Record::TimeUpdate(u) => local_time(u.base, u.zone, u.dst),
-        Record::TimeFault(_) => LocalTime::Unknown,
+        Record::TimeFault(_) => None,
     }
 }
 
-pub fn local_date(starts: &[u32], local: LocalTime) -> Dated
-    requires { starts.now ≡ month_starts }
+#[tactic(auto, unfolding(crate::specs::Local::local_date))]
+pub fn local_date(local: Option<u64>) -> Option<Date>
     ensures { result ≡ local_date local }
 {
-    match local {
-        LocalTime::At(seconds) => date_of_seconds(starts, seconds),
-        LocalTime::Unknown => Dated::Outside,
-    }
+    date_of_seconds(local?)
 }

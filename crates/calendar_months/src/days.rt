@@ -1,5 +1,5 @@
 // The table itself: a year's twelve entries, January first, stand below its number.
-pub const DAYS_BEFORE: [u32; 1201] = [
+pub static DAYS_BEFORE: [u32; 1201] = [
     // 2000
     0, 31, 60, 91, 121, 152, 182, 213, 244, 274, 305, 335,
     // 2001

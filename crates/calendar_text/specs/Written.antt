@@ -1,9 +1,7 @@
 -- A date and time as it is written (change request E4), `2025-05-08 06:13:20`. Text is ASCII: 48 is `0`, 45 is `-`, 32 a space, 58 is `:`, 63 is `?`.
-use Rattle.std.specs.Prelude.{List, [], ◌∷◌, ◌++◌, ℕ, ◌/◌}
+use Rattle.std.specs.Prelude.{Option, Some, None, List, [], ◌∷◌, ◌++◌, ℕ, ◌/◌}
 use Rattle.text.specs.Line.{decimal, two_digits}
 use Rattle.calendar_dates.specs.declared.dates.Date.{Date}
-use Rattle.calendar_dates.specs.declared.dates.Dated.{Dated}
-use Rattle.calendar_dates.specs.declared.dates.Dated.TheVariants.{On, Outside}
 
 unfoldable pub date_text : Date → List ℕ
 date_text d =
@@ -15,9 +13,9 @@ date_text d =
     ++ (58 ∷ two_digits d.second))))))
 
 -- the same with a byte after it, a space or the line's end; `?` for a second that has no date
-unfoldable pub dated_text : Dated → ℕ → List ℕ
-dated_text (On d) after = date_text d ++ (after ∷ [])
-dated_text Outside after = 63 ∷ after ∷ []
+unfoldable pub dated_text : Option Date → ℕ → List ℕ
+dated_text (Some d) after = date_text d ++ (after ∷ [])
+dated_text None after = 63 ∷ after ∷ []
 
 -- a number with a byte after it
 unfoldable pub number_text : ℕ → ℕ → List ℕ

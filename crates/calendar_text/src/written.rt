@@ -3,16 +3,11 @@ ghost use Rattle.std.specs.Prelude.{◌≡◌, [], ◌∷◌, ◌++◌, ◌+◌,
 ghost use Rattle.text.specs.Laid.{filled, laid};
 ghost use Rattle.calendar_text.specs.Written.{date_text, dated_text, number_text};
 
-use calendar_dates::dates::{Date, Dated};
+use calendar_dates::dates::Date;
 use text::put::{put_number, put_word};
 
-fn tens(n: u16) -> u8
-    ensures { result ≡ 48 + n / 10 % 10 }
-{
-    b'0' + (n / 10 % 10) as u8
-}
-
-fn ones(n: u16) -> u8
+// The last digit of a number.
+fn digit(n: u16) -> u8
     ensures { result ≡ 48 + n % 10 }
 {
     b'0' + (n % 10) as u8
@@ -30,38 +25,39 @@ fn date_text(date: Date, after: u8) -> [u8; 20]
     let minute = date.minute as u16;
     let second = date.second as u16;
     [
-        tens(century),
-        ones(century),
-        tens(year),
-        ones(year),
+        digit(century / 10),
+        digit(century),
+        digit(year / 10),
+        digit(year),
         b'-',
-        tens(month),
-        ones(month),
+        digit(month / 10),
+        digit(month),
         b'-',
-        tens(day),
-        ones(day),
+        digit(day / 10),
+        digit(day),
         b' ',
-        tens(hour),
-        ones(hour),
+        digit(hour / 10),
+        digit(hour),
         b':',
-        tens(minute),
-        ones(minute),
+        digit(minute / 10),
+        digit(minute),
         b':',
-        tens(second),
-        ones(second),
+        digit(second / 10),
+        digit(second),
         after,
     ]
 }
 
 // These two lay a text with a byte after it over `out` from `at` on, and answer where it ends.
-pub fn put_dated(out: &mut [u8], at: usize, dated: Dated, after: u8) -> usize
+#[tactic(auto, unfolding(crate::specs::Written::dated_text))]
+pub fn put_dated(out: &mut [u8], at: usize, dated: Option<Date>, after: u8) -> usize
     requires { at + 20 ≤ length out.old }
     ensures { filled result out.new ≡ laid out.old at (dated_text dated after) }
 {
-    let Dated::On(date) = dated else {
-        return put_word(out, at, &[b'?', after]);
-    };
-    put_word(out, at, &date_text(date, after))
+    match dated {
+        Some(date) => put_word(out, at, &date_text(date, after)),
+        None => put_word(out, at, &[b'?', after]),
+    }
 }
 
 pub fn put_number_and(out: &mut [u8], at: usize, n: u64, after: u8) -> usize

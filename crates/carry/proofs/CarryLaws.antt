@@ -29,12 +29,13 @@ use Rattle.table_look.proofs.LookLaws.{none_left}
 use Rattle.table_look.proofs.KindLaws.{held_rules}
 use Rattle.carry.specs.Stamp.{later_of, moved_by, carried_over, carried_from, carry_of, carrying_number, no_fault_b}
 use Rattle.carry.specs.Theorems.{AnswersWhen, moved_over, Times32, none, updated, failed, Bounded, Unchanged}
-use Rattle.carry.specs.declared.stamp.Carried.{Carried}
-use Rattle.carry.specs.declared.stamp.Carried.TheVariants.{To, TableNotSound, NotHeld, FaultAmong}
 use Rattle.carry.proofs.IntLaws.{size_difference, size_sum, fits}
+use Rattle.carry.specs.declared.stamp.CarryError.{CarryError}
+use Rattle.carry.specs.declared.stamp.CarryError.TheVariants.{FaultAmong, NotHeld, TableNotSound}
+use Rattle.std.proofs.Common.{Err, Ok, Result}
 
 -- the first record and the rest
-first_fault : (z : ℤ) (r : Record) (rest : List Record) → type_of r ≡ 0 → carried_over z (r ∷ rest) ≡ FaultAmong
+first_fault : (z : ℤ) (r : Record) (rest : List Record) → type_of r ≡ 0 → carried_over z (r ∷ rest) ≡ Err FaultAmong
 unfolding type_of carried_over
 first_fault z (TimeUpdate u) rest h = absurd (omega arith)
 first_fault z (TimeFault f) rest h = refl
@@ -45,14 +46,14 @@ first_update z (TimeUpdate u) rest h = refl
 first_update z (TimeFault f) rest h = absurd (h refl)
 
 module _ (z : ℤ) (l rest : List Record) (r : Record) (e : l ≡ r ∷ rest) where
-  pub over_fault : type_of r ≡ 0 → carried_over z l ≡ FaultAmong
+  pub over_fault : type_of r ≡ 0 → carried_over z l ≡ Err FaultAmong
   over_fault h = ap (carried_over z) e ∙ first_fault z r rest h
 
   pub over_update : (type_of r ≡ 0 → ⊥) → carried_over z l ≡ carried_over (z +ℤ moved_by r) rest
   over_update h = ap (carried_over z) e ∙ first_update z r rest h
 
 -- no record is left
-pub over_none : (t : List ℕ) (k : ℕ) (z : ℤ) → count t ≤ k → carried_over z (drop k (held t)) ≡ To z
+pub over_none : (t : List ℕ) (k : ℕ) (z : ℤ) → count t ≤ k → carried_over z (drop k (held t)) ≡ Ok z
 unfolding carried_over
 over_none t k z h = rw (none_left t k h)
 
@@ -93,16 +94,16 @@ module _ (t : List ℕ) (k : ℕ) (z : ℤ) (r : Record) (e : drop k (held t) �
 
 -- the ways out of carrying
 module _ (stamp q : ℕ) (t : List ℕ) where
-  pub carry_unsound : sound_b t ≡ false → carry_of stamp q t ≡ TableNotSound
+  pub carry_unsound : sound_b t ≡ false → carry_of stamp q t ≡ Err TableNotSound
   unfolding carry_of
   carry_unsound h = rw h
 
-  pub carry_not_held : sound_b t ≡ true → count t < later_of (next t) q → carry_of stamp q t ≡ NotHeld
+  pub carry_not_held : sound_b t ≡ true → count t < later_of (next t) q → carry_of stamp q t ≡ Err NotHeld
   unfolding carry_of carried_from
   carry_not_held sd h = simp (sd, length_held t, lt-leb _ _ h)
 
   -- carried over the records from the age n on, which are the m newest
-  pub carry_over : (c : Carried) (n : ℕ) → c ≡ carried_over (pos stamp) (drop n (held t)) → sound_b t ≡ true → n + later_of (next t) q ≡ count t
+  pub carry_over : (c : Result ℤ CarryError) (n : ℕ) → c ≡ carried_over (pos stamp) (drop n (held t)) → sound_b t ≡ true → n + later_of (next t) q ≡ count t
       → c ≡ carry_of stamp q t
   unfolding carry_of carried_from
   carry_over c n e sd h =
@@ -122,7 +123,7 @@ unfolding carry_of carried_from carrying_number
 answers stamp q t = rw (length_held t) (go (sound_b t) (leb (later_of (next t) q) (count t)) (drop (count t - later_of (next t) q) (held t)))
   where
     go : (a b : Bool) (l : List Record)
-        → carrying_number (pick a (pick b (carried_over (pos stamp) l) NotHeld) TableNotSound) ≡ pick a (pick b (pick (no_fault_b l) 0 13) 12) 1
+        → carrying_number (pick a (pick b (carried_over (pos stamp) l) (Err NotHeld)) (Err TableNotSound)) ≡ pick a (pick b (pick (no_fault_b l) 0 13) 12) 1
     go false b l = refl
     go true false l = refl
     go true true l = over_answers l (pos stamp)
@@ -130,21 +131,21 @@ answers stamp q t = rw (length_held t) (go (sound_b t) (leb (later_of (next t) q
 pub unchanged : Unchanged
 unfolding later_of
 unchanged stamp q t sd e =
-    sym (carry_over stamp q t (To (pos stamp)) (count t) (sym (over_none t (count t) (pos stamp) (omega arith))) sd (omega arith))
+    sym (carry_over stamp q t (Ok (pos stamp)) (count t) (sym (over_none t (count t) (pos stamp) (omega arith))) sd (omega arith))
 
 -- a carried stamp is the stamp and the sum of what moved it
-over_sum : (l : List Record) (y z : ℤ) → carried_over y l ≡ To z → z ≡ y +ℤ moved_over l
+over_sum : (l : List Record) (y z : ℤ) → carried_over y l ≡ Ok z → z ≡ y +ℤ moved_over l
 unfolding carried_over moved_over
 over_sum [] y z h = let e : z ≡ y = cc in e ∙ sym (+ℤ_idr y)
 over_sum (TimeUpdate u ∷ l) y z h = over_sum l _ z h ∙ +ℤ_assoc y (moved_by (TimeUpdate u)) (moved_over l)
 over_sum (TimeFault f ∷ l) y z h = let n : ◌≡◌ {A = ℕ} 0 1 = cc in absurd (omega arith)
 
-carried_over_lem : (stamp q : ℕ) (t : List ℕ) (z : ℤ) → carry_of stamp q t ≡ To z
-    → (sound_b t ≡ true) × (carried_over (pos stamp) (newest (later_of (next t) q) (held t)) ≡ To z)
+carried_over_lem : (stamp q : ℕ) (t : List ℕ) (z : ℤ) → carry_of stamp q t ≡ Ok z
+    → (sound_b t ≡ true) × (carried_over (pos stamp) (newest (later_of (next t) q) (held t)) ≡ Ok z)
 unfolding carry_of carried_from
 carried_over_lem stamp q t z = go (sound_b t) (leb (later_of (next t) q) (length (held t))) _
   where
-    go : (a b : Bool) (c : Carried) → pick a (pick b c NotHeld) TableNotSound ≡ To z → (a ≡ true) × (c ≡ To z)
+    go : (a b : Bool) (c : Result ℤ CarryError) → pick a (pick b c (Err NotHeld)) (Err TableNotSound) ≡ Ok z → (a ≡ true) × (c ≡ Ok z)
     go true true c h = (refl, h)
     go true false c h = let n : ◌≡◌ {A = ℕ} 0 1 = cc in absurd (omega arith)
     go false b c h = let n : ◌≡◌ {A = ℕ} 0 1 = cc in absurd (omega arith)
@@ -158,7 +159,7 @@ sum_small (TimeUpdate u ∷ l) (updated a b h) =
 sum_small (TimeFault f ∷ l) (failed h) = omega (arith, size_sum (pos 0) (moved_over l), sum_small l h)
 
 -- the stamp, and at most 1,023 such moves
-carried_size : (stamp q : ℕ) (t : List ℕ) (z : ℤ) → carry_of stamp q t ≡ To z → nat_abs z ≤ stamp + 4294967295 * 1023
+carried_size : (stamp q : ℕ) (t : List ℕ) (z : ℤ) → carry_of stamp q t ≡ Ok z → nat_abs z ≤ stamp + 4294967295 * 1023
 carried_size stamp q t z e =
     let c = carried_over_lem stamp q t z e in
     let d = sound_head t c.0 in

@@ -1,6 +1,6 @@
 -- Cases of carrying, run by the checker on the definitions that the promises cite. TB1 to TB11 and CA1 to CA14 are test vectors worked out
 -- from document 01 apart from these definitions.
-use Rattle.std.specs.Prelude.{◌≡◌, List, [], ◌∷◌, ◌++◌, map, ℕ, take, pos, negsuc}
+use Rattle.std.specs.Prelude.{◌≡◌, List, [], ◌∷◌, ◌++◌, map, ℕ, take, pos, negsuc, Err, Ok, Result, ℤ}
 use Rattle.octets.specs.Numbers.{bytes2}
 use Rattle.octets.specs.Parts.{zeros_b, over}
 use Rattle.rules.specs.Fields.{base_b, zone_b, dst_b, source_b, status_b, bits_b}
@@ -13,17 +13,17 @@ use Rattle.table.specs.Table.{size_b, start_b, empty_b, fields_b, head_b, slot, 
 use Rattle.table_write.specs.Start.{fresh}
 use Rattle.table_write.specs.Append.{place_of, slot_of, header_after, append_of, log_all}
 use Rattle.carry.specs.Stamp.{later_of, carried_over, carried_from, carry_of, moved_by}
-use Rattle.carry.specs.declared.stamp.Carried.{Carried}
-use Rattle.carry.specs.declared.stamp.Carried.TheVariants.{To, TableNotSound, NotHeld, FaultAmong}
+use Rattle.carry.specs.declared.stamp.CarryError.{CarryError}
+use Rattle.carry.specs.declared.stamp.CarryError.TheVariants.{FaultAmong, NotHeld, TableNotSound}
 
 -- a case: the stamp, its next number, the table, and what comes of it
 pub record Case : Type 0 where
   pub stamp : ℕ
   pub q : ℕ
   pub table : List ℕ
-  pub carried : Carried
+  pub carried : Result ℤ CarryError
 
-abbrev case : ℕ → ℕ → List ℕ → Carried → Case
+abbrev case : ℕ → ℕ → List ℕ → Result ℤ CarryError → Case
 case s q t c = record { stamp = s; q = q; table = t; carried = c }
 
 -- a record of a time of grade 3: number, status before, faults before, time received and time before
@@ -96,46 +96,46 @@ rolled =
 unfoldable pub table : List Case
 table =
     -- TB1 to TB4: an empty table; its next number is free
-    case 7 5 (with t0 8 (bytes2 5)) (To (pos 7))
-    ∷ case 7 0 (with t0 4 (80 ∷ [])) TableNotSound
-    ∷ case 7 0 (with t0 15 (1 ∷ [])) TableNotSound
-    ∷ case 7 0 (with t0 0 (bytes2 5)) TableNotSound
+    case 7 5 (with t0 8 (bytes2 5)) (Ok (pos 7))
+    ∷ case 7 0 (with t0 4 (80 ∷ [])) (Err TableNotSound)
+    ∷ case 7 0 (with t0 15 (1 ∷ [])) (Err TableNotSound)
+    ∷ case 7 0 (with t0 0 (bytes2 5)) (Err TableNotSound)
     -- TB5 to TB10: one record
-    ∷ case 7 1 (with t1 2 (bytes2 5)) TableNotSound
-    ∷ case 7 1 (with t1 41 (1 ∷ [])) TableNotSound
-    ∷ case 7 1 (with t1 83 (9 ∷ [])) (To (pos 7))
-    ∷ case 7 2 (with t1 8 (bytes2 2)) TableNotSound
-    ∷ case 7 1 (with t1 16 (23 ∷ [])) TableNotSound
-    ∷ case 7 1 (t1 ++ (0 ∷ [])) TableNotSound
+    ∷ case 7 1 (with t1 2 (bytes2 5)) (Err TableNotSound)
+    ∷ case 7 1 (with t1 41 (1 ∷ [])) (Err TableNotSound)
+    ∷ case 7 1 (with t1 83 (9 ∷ [])) (Ok (pos 7))
+    ∷ case 7 2 (with t1 8 (bytes2 2)) (Err TableNotSound)
+    ∷ case 7 1 (with t1 16 (23 ∷ [])) (Err TableNotSound)
+    ∷ case 7 1 (t1 ++ (0 ∷ [])) (Err TableNotSound)
     -- TB11: the record stands in slot 3
-    ∷ case 7 1 (with (with t0 208 (slot_of first)) 2 (1 ∷ 0 ∷ 208 ∷ 0 ∷ 0 ∷ 0 ∷ 1 ∷ [])) (To (pos 7))
+    ∷ case 7 1 (with (with t0 208 (slot_of first)) 2 (1 ∷ 0 ∷ 208 ∷ 0 ∷ 0 ∷ 0 ∷ 1 ∷ [])) (Ok (pos 7))
     -- CA1 to CA4
-    ∷ case 800000050 0 t3 (To (pos 968848020))
-    ∷ case 10 1 t3 (To (negsuc 19))
-    ∷ case 4294967295 0 t3 (To (pos 4463815265))
-    ∷ case 5 3 t3 NotHeld
+    ∷ case 800000050 0 t3 (Ok (pos 968848020))
+    ∷ case 10 1 t3 (Ok (negsuc 19))
+    ∷ case 4294967295 0 t3 (Ok (pos 4463815265))
+    ∷ case 5 3 t3 (Err NotHeld)
     -- CA5, CA6: m one more than H, and all held
-    ∷ case 5 0 tf NotHeld
-    ∷ case 5 1 tf (To (pos 9))
+    ∷ case 5 0 tf (Err NotHeld)
+    ∷ case 5 1 tf (Ok (pos 9))
     -- CA7 to CA10: a fault at the end, before and in the midst of the records after q
-    ∷ case 5 2 (logged (first ∷ back ∷ fault ∷ [])) FaultAmong
-    ∷ case 5 3 (logged (first ∷ back ∷ fault ∷ [])) (To (pos 5))
-    ∷ case 5 3 (logged (first ∷ back ∷ fault ∷ again ∷ [])) (To (negsuc 64))
-    ∷ case 5 1 (logged (first ∷ back ∷ fault ∷ again ∷ [])) FaultAmong
+    ∷ case 5 2 (logged (first ∷ back ∷ fault ∷ [])) (Err FaultAmong)
+    ∷ case 5 3 (logged (first ∷ back ∷ fault ∷ [])) (Ok (pos 5))
+    ∷ case 5 3 (logged (first ∷ back ∷ fault ∷ again ∷ [])) (Ok (negsuc 64))
+    ∷ case 5 1 (logged (first ∷ back ∷ fault ∷ again ∷ [])) (Err FaultAmong)
     -- CA11, CA12: 12 before 13, 1 before 12
-    ∷ case 5 0 (logged (first ∷ back ∷ fault ∷ again ∷ set 4 0x16 1 800000001 800000000 ∷ [])) NotHeld
-    ∷ case 5 9 (take 271 t3) TableNotSound
+    ∷ case 5 0 (logged (first ∷ back ∷ fault ∷ again ∷ set 4 0x16 1 800000001 800000000 ∷ [])) (Err NotHeld)
+    ∷ case 5 9 (take 271 t3) (Err TableNotSound)
     -- CA13, CA14: q equal to next; the numbers went round
-    ∷ case 4294967295 0 t0 (To (pos 4294967295))
-    ∷ case 0 65534 rolled (To (pos 13))
+    ∷ case 4294967295 0 t0 (Ok (pos 4294967295))
+    ∷ case 0 65534 rolled (Ok (pos 13))
     ∷ []
 
 -- `carry_of` of a case with all that it cites laid open, for the checker to compute
-unfoldable pub got : Case → Carried
+unfoldable pub got : Case → Result ℤ CarryError
 unfolding carry_of carried_from carried_over moved_by later_of sound_b head_b size_b start_b empty_b fields_b slot bytes_in record_in slots ring held slot_b row_b well_formed_b shape_b sized_b record_b update_b fault_b record_of update_read fault_read sequence_of base_b zone_b dst_b source_b status_b bits_b zeros_b over fresh log_all append_of steps place_of slot_of header_after bytes_of update_bytes fault_bytes
 got k = carry_of k.stamp k.q k.table
 
-unfoldable pub expected : Case → Carried
+unfoldable pub expected : Case → Result ℤ CarryError
 expected k = k.carried
 
 abbrev pub Computed : Type 0

@@ -13,9 +13,9 @@ use table_sound::sound::sound;
 // Event_Log_Type of a Time_Fault (document 002, Table 3.12)
 const TIME_FAULT: u8 = 0;
 
+// Why a stamp is not carried.
 #[derive(Clone, Copy)]
-pub enum Carried {
-    To(i64),
+pub enum CarryError {
     TableNotSound,
     NotHeld,
     FaultAmong,
@@ -46,55 +46,55 @@ fn moved(r: Record) -> i64
 }
 
 // How many records were logged after the stamp was noted: both numbers go round at 65,536.
+#[tactic(auto, unfolding(crate::specs::Stamp::later_of))]
 fn later(next: u16, q: u16) -> usize
     ensures { result ≡ later_of next q }
 {
-    (next as usize + 65536 - q as usize) % 65536
+    next.wrapping_sub(q) as usize
 }
 
 // One pass over the held records from an age on, the oldest of them first.
-fn carried_over(stamp: u32, t: &[u8], from: usize) -> Carried
+fn carried_over(stamp: u32, t: &[u8], from: usize) -> Result<i64, CarryError>
     requires { (sound_b t.now ≡ true) × (from ≤ count t.now) }
     ensures { result ≡ carried_over (pos stamp) (drop from (held t.now)) }
 {
     let among = held_count(t);
     let mut sum = stamp as i64;
-    let mut age = from;
-    while age < among {
+    for age in from..among {
         let r = record_at(t, age);
         if type_of(r) == TIME_FAULT {
-            return Carried::FaultAmong;
+            return Err(CarryError::FaultAmong);
         }
         sum = plus(sum, moved(r));
-        age += 1;
     }
-    Carried::To(sum)
+    Ok(sum)
 }
 
 // Carrying (document 01, "Carrying a stamp"). Refuses: 1, 12, 13. The result always fits: a table holds at most
 // 1,023 records, and that many differences of 32-bit values stay within 64 bits (`theorems::bounded`).
-pub fn carry(stamp: u32, q: u16, t: &[u8]) -> Carried
+pub fn carry(stamp: u32, q: u16, t: &[u8]) -> Result<i64, CarryError>
     ensures { result ≡ carry_of stamp q t.now }
 {
     if !sound(t) {
-        return Carried::TableNotSound;
+        return Err(CarryError::TableNotSound);
     }
     let m = later(next_number(t), q);
     let among = held_count(t);
     if among < m {
-        return Carried::NotHeld;
+        return Err(CarryError::NotHeld);
     }
     carried_over(stamp, t, among - m)
 }
 
 // The paper's number of an answer.
-pub fn carrying_number(c: Carried) -> u8
+#[tactic(auto, unfolding(crate::specs::Stamp::carrying_number))]
+pub fn carrying_number(c: Result<i64, CarryError>) -> u8
     ensures { result ≡ carrying_number c }
 {
     match c {
-        Carried::To(_) => 0,
-        Carried::TableNotSound => 1,
-        Carried::NotHeld => 12,
-        Carried::FaultAmong => 13,
+        Ok(_) => 0,
+        Err(CarryError::TableNotSound) => 1,
+        Err(CarryError::NotHeld) => 12,
+        Err(CarryError::FaultAmong) => 13,
     }
 }

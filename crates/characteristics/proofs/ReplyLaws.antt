@@ -10,13 +10,14 @@ use lib.ListN.{length}
 use Rattle.octets.specs.Choice.{pick}
 use Rattle.octets.specs.Parts.{over}
 use Rattle.clock.specs.Obeys.{clock_b}
-use Rattle.clock.specs.declared.answers.Answer.TheVariants.{Done, OutputShort}
 use Rattle.clock.specs.declared.state.Clock.{Clock}
 use Rattle.rows.specs.Reply.{Outcome, done_b, answered}
 use Rattle.rows.specs.Rows.{first_failed, table_rows}
 use Rattle.rows.proofs.ReplyLaws.{broken_of, Replies, broken_refused, table_broken}
 use Rattle.characteristics.specs.Value.{feature_bytes, parameters_bytes, device_time_bytes, device_time_of, Told, told, value, told_of, feature_of, parameters_of}
 use Rattle.characteristics.proofs.ValueLaws.{device_time_refused, device_time_done}
+use Rattle.clock.specs.declared.answers.Refusal.TheVariants.{OutputShort}
+use Rattle.std.proofs.Common.{Err, Ok}
 
 module _ (c : Clock) (t o : List ℕ) where
   device_time_short : (device_time_of c t o).reply.len ≤ 255
@@ -39,7 +40,7 @@ told_short : (v o : List ℕ) → length v ≤ 255 → (told_of v o).value.len �
 unfolding told_of
 told_short v o h = go (leb 20 (length o))
   where
-    go : (b : Bool) → let u : Told = pick b (told (value Done (length v)) (over o 0 v)) (told (value OutputShort 0) o) in u.value.len ≤ 255
+    go : (b : Bool) → let u : Told = pick b (told (value (Ok tt) (length v)) (over o 0 v)) (told (value (Err OutputShort) 0) o) in u.value.len ≤ 255
     go true = h
     go false = omega arith
 

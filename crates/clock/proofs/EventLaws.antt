@@ -9,16 +9,15 @@ use Rattle.octets.proofs.Tests.{both_yes, both_reads}
 use Rattle.rules.specs.Fields.{last_base_time, base_b}
 use Rattle.clock.specs.State.{with_switches, with_running}
 use Rattle.clock.specs.Obeys.{running_b, time_b, clock_b}
-use Rattle.clock.specs.Events.{event, unless_broken, seconds_of, switches_of, disconnect_of, with_base, on_off, disconnected}
-use Rattle.clock.specs.declared.answers.Answer.TheVariants.{Done, ClockBroken, PastTheEnd}
-use Rattle.clock.specs.declared.events.Event.{Event}
+use Rattle.clock.specs.Events.{event, unless_broken, seconds_of, switches_of, disconnect_of, with_base, on_off, disconnected, Event}
 use Rattle.clock.specs.declared.state.Clock.{Clock}
-use Rattle.clock.specs.declared.state.Running.{Running}
-use Rattle.clock.specs.declared.state.Running.TheVariants.{Idle}
 use Rattle.clock.specs.declared.state.Switches.{Switches}
+use Rattle.clock.specs.declared.state.Report.{Report}
+use Rattle.std.proofs.Common.{None, Option, Err, Ok}
+use Rattle.clock.specs.declared.answers.Refusal.TheVariants.{ClockBroken, PastTheEnd}
 
 -- row 2, for every call here
-broken : (c : Clock) (e : Event) → clock_b c ≡ false → unless_broken c e ≡ event ClockBroken c
+broken : (c : Clock) (e : Event) → clock_b c ≡ false → unless_broken c e ≡ event (Err ClockBroken) c
 unfolding unless_broken
 broken c e h = rw h
 
@@ -27,23 +26,23 @@ unfolding unless_broken
 passed c e h = rw h
 
 module _ (c : Clock) (n : ℕ) where
-  pub seconds_2 : clock_b c ≡ false → seconds_of c n ≡ event ClockBroken c
+  pub seconds_2 : clock_b c ≡ false → seconds_of c n ≡ event (Err ClockBroken) c
   unfolding seconds_of
   seconds_2 h = broken c _ h
 
-  pub seconds_7 : clock_b c ≡ true → last_base_time < c.time.base + n → seconds_of c n ≡ event PastTheEnd c
+  pub seconds_7 : clock_b c ≡ true → last_base_time < c.time.base + n → seconds_of c n ≡ event (Err PastTheEnd) c
   unfolding seconds_of
   seconds_7 h l = passed c _ h ∙ rw (lt-ltb last_base_time (c.time.base + n) l)
 
-  pub seconds_done : clock_b c ≡ true → c.time.base + n ≤ last_base_time → seconds_of c n ≡ event Done (with_base c (c.time.base + n))
+  pub seconds_done : clock_b c ≡ true → c.time.base + n ≤ last_base_time → seconds_of c n ≡ event (Ok tt) (with_base c (c.time.base + n))
   unfolding seconds_of
   seconds_done h l = passed c _ h ∙ rw (le-ltb last_base_time (c.time.base + n) l)
 
 -- the three answers of a seconds event
 pub data Seconds (c : Clock) (n : ℕ) : Event → Type 0 where
-  refuses_2 : clock_b c ≡ false → Seconds c n (event ClockBroken c)
-  refuses_7 : clock_b c ≡ true → last_base_time < c.time.base + n → Seconds c n (event PastTheEnd c)
-  rises : clock_b c ≡ true → c.time.base + n ≤ last_base_time → Seconds c n (event Done (with_base c (c.time.base + n)))
+  refuses_2 : clock_b c ≡ false → Seconds c n (event (Err ClockBroken) c)
+  refuses_7 : clock_b c ≡ true → last_base_time < c.time.base + n → Seconds c n (event (Err PastTheEnd) c)
+  rises : clock_b c ≡ true → c.time.base + n ≤ last_base_time → Seconds c n (event (Ok tt) (with_base c (c.time.base + n)))
 
 pub seconds_is : (c : Clock) (n : ℕ) → Seconds c n (seconds_of c n)
 seconds_is c n = go (clock_b c) (ltb last_base_time (c.time.base + n)) refl refl
@@ -54,34 +53,34 @@ seconds_is c n = go (clock_b c) (ltb last_base_time (c.time.base + n)) refl refl
     go true false h l = let p = ltb-false last_base_time (c.time.base + n) l in rw (seconds_done c n h p) (rises h p)
 
 module _ (c : Clock) (a b d : Bool) where
-  pub switches_2 : clock_b c ≡ false → switches_of c a b d ≡ event ClockBroken c
+  pub switches_2 : clock_b c ≡ false → switches_of c a b d ≡ event (Err ClockBroken) c
   unfolding switches_of
   switches_2 h = broken c _ h
 
-  pub switches_done : clock_b c ≡ true → switches_of c a b d ≡ event Done (with_switches c (on_off a b d))
+  pub switches_done : clock_b c ≡ true → switches_of c a b d ≡ event (Ok tt) (with_switches c (on_off a b d))
   unfolding switches_of
   switches_done h = passed c _ h
 
 module _ (c : Clock) where
-  pub disconnect_2 : clock_b c ≡ false → disconnect_of c ≡ event ClockBroken c
+  pub disconnect_2 : clock_b c ≡ false → disconnect_of c ≡ event (Err ClockBroken) c
   unfolding disconnect_of
   disconnect_2 h = broken c _ h
 
-  pub disconnect_done : clock_b c ≡ true → disconnect_of c ≡ event Done (disconnected c)
+  pub disconnect_done : clock_b c ≡ true → disconnect_of c ≡ event (Ok tt) (disconnected c)
   unfolding disconnect_of
   disconnect_done h = passed c _ h
 
 -- the two answers of switches and disconnect, where `after` is the clock that the call makes
 pub data Changed (c after : Clock) : Event → Type 0 where
-  refuses_2 : clock_b c ≡ false → Changed c after (event ClockBroken c)
-  changes : clock_b c ≡ true → Changed c after (event Done after)
+  refuses_2 : clock_b c ≡ false → Changed c after (event (Err ClockBroken) c)
+  changes : clock_b c ≡ true → Changed c after (event (Ok tt) after)
 
-changed : (c after : Clock) → Changed c after (unless_broken c (event Done after))
+changed : (c after : Clock) → Changed c after (unless_broken c (event (Ok tt) after))
 changed c after = go (clock_b c) refl
   where
-    go : (ok : Bool) → clock_b c ≡ ok → Changed c after (unless_broken c (event Done after))
-    go false h = rw (broken c (event Done after) h) (refuses_2 h)
-    go true h = rw (passed c (event Done after) h) (changes h)
+    go : (ok : Bool) → clock_b c ≡ ok → Changed c after (unless_broken c (event (Ok tt) after))
+    go false h = rw (broken c (event (Ok tt) after) h) (refuses_2 h)
+    go true h = rw (passed c (event (Ok tt) after) h) (changes h)
 
 pub switches_is : (c : Clock) (a b d : Bool) → Changed c (with_switches c (on_off a b d)) (switches_of c a b d)
 unfolding switches_of
@@ -104,10 +103,10 @@ unfolding clock_b
 with_switches_obeys c s h = h
 
 -- a report that obeys its rules, and none
-pub with_running_obeys : (c : Clock) (r : Running) → clock_b c ≡ true → running_b r ≡ true → clock_b (with_running c r) ≡ true
+pub with_running_obeys : (c : Clock) (r : Option Report) → clock_b c ≡ true → running_b r ≡ true → clock_b (with_running c r) ≡ true
 unfolding clock_b
 with_running_obeys c r h ok = both_yes (both_reads (time_b c.time) (running_b c.running) h).0 ∙ ok
 
 pub disconnected_obeys : (c : Clock) → clock_b c ≡ true → clock_b (disconnected c) ≡ true
 unfolding clock_b disconnected running_b
-disconnected_obeys c h = with_running_obeys c Idle h refl
+disconnected_obeys c h = with_running_obeys c None h refl

@@ -10,8 +10,8 @@ use Rattle.rules.proofs.RangeLaws.{base_reads, base_makes}
 use Rattle.clock.specs.Obeys.{opcode_b, last_counter, counter_b, report_b, running_b, time_b, clock_b, TimeRules, Rules, ReportRules}
 use Rattle.clock.specs.declared.state.Clock.{Clock}
 use Rattle.clock.specs.declared.state.Report.{Report}
-use Rattle.clock.specs.declared.state.Running.TheVariants.{Reporting}
 use Rattle.clock.specs.declared.state.Time.{Time}
+use Rattle.std.proofs.Common.{Some}
 
 pub time_reads : (t : Time) → time_b t ≡ true → TimeRules t
 unfolding time_b
@@ -56,12 +56,12 @@ pub clock_makes : (c : Clock) → Rules c → clock_b c ≡ true
 unfolding clock_b
 clock_makes c r = both_yes (time_makes c.time r.time) ∙ r.running
 
-pub running_reads : (r : Report) → running_b (Reporting r) ≡ true → ReportRules r
+pub running_reads : (r : Report) → running_b (Some r) ≡ true → ReportRules r
 unfolding running_b report_b counter_b
 running_reads r h =
     let x = both_reads (opcode_b r.opcode) (counter_b r.counter) h in
     record { opcode = x.0; counter = leb-true r.counter last_counter x.1 }
 
-pub running_makes : (r : Report) → ReportRules r → running_b (Reporting r) ≡ true
+pub running_makes : (r : Report) → ReportRules r → running_b (Some r) ≡ true
 unfolding running_b report_b counter_b
 running_makes r h = simp (h.opcode, le-leb r.counter last_counter h.counter)

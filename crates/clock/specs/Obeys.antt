@@ -1,13 +1,11 @@
 -- When a clock obeys the rules of document 01, "Clock state", alone: of the running report's next record, "is held, matches and has
 -- bytes unsent (tested only by calls that take the table)", nothing is said here. No rule couples two fields beyond those listed.
-use Rattle.std.specs.Prelude.{◌≡◌, Bool, true, ℕ, ◌≤◌, leb, eqb}
+use Rattle.std.specs.Prelude.{◌≡◌, Bool, true, ℕ, ◌≤◌, leb, eqb, None, Option, Some}
 use Rattle.octets.specs.Choice.{both, either}
 use Rattle.rules.specs.Fields.{first_base_time, last_base_time, base_b, zone_b, dst_b, source_b, status_b}
 use Rattle.codes.specs.Racp.{report_opcode, combined_opcode}
 use Rattle.clock.specs.declared.state.Clock.{Clock}
 use Rattle.clock.specs.declared.state.Report.{Report}
-use Rattle.clock.specs.declared.state.Running.{Running}
-use Rattle.clock.specs.declared.state.Running.TheVariants.{Idle, Reporting}
 use Rattle.clock.specs.declared.state.Time.{Time}
 
 -- "the running report, if any: opcode 1 or 7"
@@ -26,9 +24,9 @@ counter_b n = leb n last_counter
 unfoldable pub report_b : Report → Bool
 report_b r = both (opcode_b r.opcode) (counter_b r.counter)
 
-unfoldable pub running_b : Running → Bool
-running_b Idle = true
-running_b (Reporting r) = report_b r
+unfoldable pub running_b : Option Report → Bool
+running_b None = true
+running_b (Some r) = report_b r
 
 -- Base_Time; zone and DST; source and status; the last accepted UTC-aligned value. "Accuracy: any byte", and any fault count.
 unfoldable pub time_b : Time → Bool

@@ -1,11 +1,10 @@
 -- The clock state's values with a name, the clock of a new reader, and a clock with one part changed (document 01, "Clock state").
-use Rattle.std.specs.Prelude.{false, ℕ}
+use Rattle.std.specs.Prelude.{false, ℕ, None, Option}
 use Rattle.rules.specs.Fields.{first_base_time}
 use Rattle.clock.specs.declared.state.Clock.{Clock}
-use Rattle.clock.specs.declared.state.Running.{Running}
-use Rattle.clock.specs.declared.state.Running.TheVariants.{Idle}
 use Rattle.clock.specs.declared.state.Switches.{Switches}
 use Rattle.clock.specs.declared.state.Time.{Time}
+use Rattle.clock.specs.declared.state.Report.{Report}
 
 -- "-128 for unknown", as its byte
 abbrev pub unknown_zone : ℕ
@@ -43,7 +42,7 @@ all_off = record { dtcp = false; racp = false; log = false }
 
 -- "all switches off, no report"
 unfoldable pub new_reader : Clock
-new_reader = record { time = new_time; switches = all_off; running = Idle }
+new_reader = record { time = new_time; switches = all_off; running = None }
 
 -- another time, other switches, another running report or none: the other parts stay
 abbrev pub with_time : Clock → Time → Clock
@@ -52,5 +51,5 @@ with_time c t = record { time = t; switches = c.switches; running = c.running }
 abbrev pub with_switches : Clock → Switches → Clock
 with_switches c s = record { time = c.time; switches = s; running = c.running }
 
-abbrev pub with_running : Clock → Running → Clock
+abbrev pub with_running : Clock → Option Report → Clock
 with_running c r = record { time = c.time; switches = c.switches; running = r }

@@ -1,87 +1,50 @@
 // The clock events that take no table (document 01, "Clock events"). None requires anything. "A refusal
-// leaves state .. untouched": the clock comes back as it was given.
+// leaves state .. untouched": the clock stays as it was.
 ghost use Rattle.std.specs.Prelude.{◌≡◌};
-ghost use Rattle.clock.specs.Events.{seconds_of, switches_of, disconnect_of};
+ghost use Rattle.clock.specs.Events.{event, seconds_of, switches_of, disconnect_of};
 
-use crate::answers::Answer;
+use crate::answers::Refusal;
 use crate::obeys::clock_ok;
-use crate::state::{Clock, Running, Switches, all_off};
+use crate::state::{Clock, Switches, all_off};
 use rules::fields::LAST_BASE_TIME;
-
-#[derive(Clone, Copy)]
-pub struct Event {
-    pub answer: Answer,
-    pub clock: Clock,
-}
 
 // Seconds n: Base_Time rises by n, in a fault and in a report too.
 // Refuses: 2, 7.
-pub fn seconds(c: Clock, n: u32) -> Event
-    ensures { result ≡ seconds_of c n }
+pub fn seconds(c: &mut Clock, n: u32) -> Result<(), Refusal>
+    ensures { event result c.new ≡ seconds_of c.old n }
 {
-    if !clock_ok(c) {
-        return Event {
-            answer: Answer::ClockBroken,
-            clock: c,
-        };
+    if !clock_ok(*c) {
+        return Err(Refusal::ClockBroken);
     }
-    let base = c.time.base;
-    if LAST_BASE_TIME - base < n {
-        return Event {
-            answer: Answer::PastTheEnd,
-            clock: c,
-        };
+    if LAST_BASE_TIME - c.time.base < n {
+        return Err(Refusal::PastTheEnd);
     }
-    let later = base + n;
-    let mut after = c;
-    after.time.base = later;
-    Event {
-        answer: Answer::Done,
-        clock: after,
-    }
+    c.time.base += n;
+    Ok(())
 }
 
 // The three switches on or off; nothing else changes, a running report goes on.
 // Refuses: 2.
-pub fn switches(c: Clock, dtcp: bool, racp: bool, log: bool) -> Event
-    ensures { result ≡ switches_of c dtcp racp log }
+pub fn switches(c: &mut Clock, dtcp: bool, racp: bool, log: bool) -> Result<(), Refusal>
+    ensures { event result c.new ≡ switches_of c.old dtcp racp log }
 {
-    if !clock_ok(c) {
-        return Event {
-            answer: Answer::ClockBroken,
-            clock: c,
-        };
+    if !clock_ok(*c) {
+        return Err(Refusal::ClockBroken);
     }
-    let switches = Switches { dtcp, racp, log };
-    let mut after = c;
-    after.switches = switches;
-    Event {
-        answer: Answer::Done,
-        clock: after,
-    }
+    c.switches = Switches { dtcp, racp, log };
+    Ok(())
 }
 
 // Disconnect: all switches off, a running report ends without response, clock and log stay. It takes no
 // table, so a report that is out of step with its table ends here.
 // Refuses: 2.
-pub fn disconnect(c: Clock) -> Event
-    ensures { result ≡ disconnect_of c }
+pub fn disconnect(c: &mut Clock) -> Result<(), Refusal>
+    ensures { event result c.new ≡ disconnect_of c.old }
 {
-    if !clock_ok(c) {
-        return Event {
-            answer: Answer::ClockBroken,
-            clock: c,
-        };
+    if !clock_ok(*c) {
+        return Err(Refusal::ClockBroken);
     }
-    let time = c.time;
-    let switches = all_off();
-    let running = Running::Idle;
-    Event {
-        answer: Answer::Done,
-        clock: Clock {
-            time,
-            switches,
-            running,
-        },
-    }
+    c.switches = all_off();
+    c.running = None;
+    Ok(())
 }

@@ -3,7 +3,7 @@
 ghost use Rattle.std.specs.Prelude.{◌≡◌};
 ghost use Rattle.clock.specs.Obeys.{opcode_b, report_b, running_b, time_b, clock_b};
 
-use crate::state::{Clock, Report, Running, Time};
+use crate::state::{Clock, Report, Time};
 use codes::racp::{COMBINED_OPCODE, REPORT_OPCODE};
 use octets::choice::both;
 use rules::fields::{base_ok, dst_ok, source_ok, status_ok, zone_ok};
@@ -27,12 +27,12 @@ fn report_ok(report: Report) -> bool
     both(opcode_ok(report.opcode), report.counter <= LAST_COUNTER)
 }
 
-fn running_ok(running: Running) -> bool
+fn running_ok(running: Option<Report>) -> bool
     ensures { result ≡ running_b running }
 {
     match running {
-        Running::Idle => true,
-        Running::Reporting(report) => report_ok(report),
+        None => true,
+        Some(report) => report_ok(report),
     }
 }
 

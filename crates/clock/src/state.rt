@@ -21,7 +21,7 @@ pub const FAULT_STATUS: u16 = 0x0019;
 pub struct Clock {
     pub time: Time,
     pub switches: Switches,
-    pub running: Running,
+    pub running: Option<Report>,
 }
 
 #[derive(Clone, Copy)]
@@ -47,37 +47,19 @@ pub struct Switches {
 }
 
 #[derive(Clone, Copy)]
-pub enum Running {
-    Idle,
-    Reporting(Report),
-}
-
-#[derive(Clone, Copy)]
 pub struct Report {
     pub opcode: u8,
     pub filter: Filter,
     pub counter: u8,
-    pub left: Left,
-}
-
-// The next record's sequence number, and how many of its bytes are sent.
-#[derive(Clone, Copy)]
-pub enum Left {
-    Nothing,
-    From(u16, u8),
+    // the next record's sequence number, and how many of its bytes are sent
+    pub left: Option<(u16, u8)>,
 }
 
 // The clock with another running report, or none. Refuses nothing.
-pub fn with_running(c: Clock, running: Running) -> Clock
+pub fn with_running(c: Clock, running: Option<Report>) -> Clock
     ensures { result ≡ with_running c running }
 {
-    let time = c.time;
-    let switches = c.switches;
-    Clock {
-        time,
-        switches,
-        running,
-    }
+    Clock { running, ..c }
 }
 
 fn new_time() -> Time
@@ -110,11 +92,9 @@ pub fn all_off() -> Switches
 pub fn new_reader() -> Clock
     ensures { result ≡ new_reader }
 {
-    let time = new_time();
-    let switches = all_off();
     Clock {
-        time,
-        switches,
-        running: Running::Idle,
+        time: new_time(),
+        switches: all_off(),
+        running: None,
     }
 }

@@ -3,6 +3,7 @@ ghost use Rattle.std.specs.Prelude.{◌≡◌};
 ghost use Rattle.codes.specs.Att.{att_error_at};
 
 // By the paper's number: 0x0D, 0xFD, 0xFE for 4, 5, 6; 0 for a number only. Refuses nothing.
+#[tactic(auto, unfolding(crate::specs::Att::att_error_at))]
 pub fn att_error(number: u32) -> i32
     ensures { result ≡ att_error_at number }
 {

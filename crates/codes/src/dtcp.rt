@@ -1,4 +1,5 @@
-// The Device Time Control Point's numbers (document 002, Tables 3.15 and 3.21).
+// The Device Time Control Point's numbers (document 002, Tables 3.15 and 3.21). As they stand in a write or a response: every byte is
+// answered, and a match on it says which.
 // Propose and Force Time Update, and the response to either: Table 3.15.
 pub const PROPOSE_OPCODE: u8 = 2;
 

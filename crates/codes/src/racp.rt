@@ -1,4 +1,5 @@
-// The Record Access Control Point's numbers (document 002, Tables 3.24 and 3.25).
+// The Record Access Control Point's numbers (document 002, Tables 3.24 and 3.25). As they stand in a write or a response: every byte is
+// answered, and a match on it says which.
 // The opcodes that are supported: Report Stored Records, Abort, Number, Combined Report.
 pub const REPORT_OPCODE: u8 = 1;
 

@@ -9,35 +9,27 @@ use octets::numbers::bytes2;
 // The response codes of Table 3.26 that a write, or the end of a report, is answered with.
 #[derive(Clone, Copy)]
 pub enum Code {
-    Success,
-    OpcodeNotSupported,
-    InvalidOperator,
-    OperatorNotSupported,
-    InvalidOperand,
-    NoRecordsFound,
-    AbortUnsuccessful,
-    ProcedureNotCompleted,
-    OperandNotSupported,
+    Success = 0x01,
+    OpcodeNotSupported = 0x02,
+    InvalidOperator = 0x03,
+    OperatorNotSupported = 0x04,
+    InvalidOperand = 0x05,
+    NoRecordsFound = 0x06,
+    AbortUnsuccessful = 0x07,
+    ProcedureNotCompleted = 0x08,
+    OperandNotSupported = 0x09,
 }
 
 // Its number. Refuses nothing.
+#[tactic(auto, unfolding(crate::specs::Response::code_of))]
 pub fn code_of(code: Code) -> u8
     ensures { result ≡ code_of code }
 {
-    match code {
-        Code::Success => 0x01,
-        Code::OpcodeNotSupported => 0x02,
-        Code::InvalidOperator => 0x03,
-        Code::OperatorNotSupported => 0x04,
-        Code::InvalidOperand => 0x05,
-        Code::NoRecordsFound => 0x06,
-        Code::AbortUnsuccessful => 0x07,
-        Code::ProcedureNotCompleted => 0x08,
-        Code::OperandNotSupported => 0x09,
-    }
+    code as u8
 }
 
 // The opcode that was asked, and the code.
+#[tactic(auto, unfolding(crate::specs::Response::code_bytes))]
 pub fn code_bytes(opcode: u8, code: Code) -> [u8; 4]
     ensures { result ≡ code_bytes opcode code }
 {
@@ -45,6 +37,7 @@ pub fn code_bytes(opcode: u8, code: Code) -> [u8; 4]
 }
 
 // A count of records: the response of Number, and the closing of a Combined Report.
+#[tactic(auto, unfolding(crate::specs::Response::count_bytes))]
 pub fn count_bytes(response: u8, n: u16) -> [u8; 4]
     ensures { result ≡ count_bytes response n }
 {

@@ -4,14 +4,13 @@
 
 ghost use Rattle.std.specs.Prelude.{◌≡◌, ◌≤◌, length};
 ghost use Rattle.text.specs.Laid.{filled, laid};
-ghost use Rattle.calendar_months.specs.Months.{month_starts};
 ghost use Rattle.dates.specs.Moments.{moment_line};
 
-use anyhow::{Context, Error, Result, ensure};
-use calendar_dates::dates::{Dated, Reckoned, date_of_seconds, seconds_of_date};
-use calendar_months::months::month_starts;
+use anyhow::{Context, Result, ensure};
+use calendar_dates::dates::{date_of_seconds, seconds_of_date};
 use calendar_text::written::{put_dated, put_number_and};
 use octets::numbers::get32;
+use programs::ending::end;
 use std::io::Read;
 use std::process::ExitCode;
 
@@ -20,27 +19,21 @@ const MOST_NUMBERS: u32 = 4_294_967_295;
 
 const NUMBER_BYTES: u64 = 4;
 
-// A date that was found turns back to a second: the arm in which it does not is never gone through.
-fn put_moment(starts: &[u32], out: &mut [u8], seconds: u32) -> usize
-    requires { (starts.now ≡ month_starts) × (64 ≤ length out.old) }
+// A date that is found always turns back to a second.
+fn put_moment(out: &mut [u8], seconds: u32) -> usize
+    requires { 64 ≤ length out.old }
     ensures { filled result out.new ≡ laid out.old 0 (moment_line seconds) }
 {
-    let dated = date_of_seconds(starts, seconds as u64);
-    let Dated::On(date) = dated else {
-        return put_dated(out, 0, dated, b'\n');
-    };
-    let reckoned = seconds_of_date(starts, date);
-    let Reckoned::Seconds(back) = reckoned else {
-        return 0;
+    let dated = date_of_seconds(seconds as u64);
+    let Some(back) = dated.and_then(seconds_of_date) else {
+        return put_dated(out, 0, None, b'\n');
     };
     let end = put_dated(out, 0, dated, b' ');
     put_number_and(out, end, back, b'\n')
 }
 
 // A number read, its line written. Does the run go on?
-fn turn(rt: &HostRuntime, starts: &[u32], number: &mut Vec<u8>) -> Result<bool>
-    requires { starts.now ≡ month_starts }
-{
+fn turn(rt: &HostRuntime, number: &mut Vec<u8>) -> Result<bool> {
     number.clear();
     let n = rt
         .stdin()
@@ -52,7 +45,7 @@ fn turn(rt: &HostRuntime, starts: &[u32], number: &mut Vec<u8>) -> Result<bool>
     }
     ensure!(n >= 4, "the input stops inside a number");
     let mut out = [0u8; 64];
-    let len = put_moment(starts, &mut out, get32(number, 0));
+    let len = put_moment(&mut out, get32(number, 0));
     rt.stdout()
         .write_all(&out[..len])
         .context("a line could not be written")?;
@@ -60,25 +53,15 @@ fn turn(rt: &HostRuntime, starts: &[u32], number: &mut Vec<u8>) -> Result<bool>
 }
 
 fn print_dates(rt: &HostRuntime) -> Result<()> {
-    let starts = month_starts();
     let mut number = Vec::new(rt.alloc());
     for _ in 0..MOST_NUMBERS {
-        if !turn(rt, &starts, &mut number)? {
+        if !turn(rt, &mut number)? {
             break;
         }
     }
     Ok(())
 }
 
-// Says on standard error what is wrong with the input or with the output; the status is then 1.
-fn complain(rt: &impl Eprint, why: Error) -> ExitCode {
-    let _ = eprintln!(rt; "dates: {why:#}");
-    ExitCode::FAILURE
-}
-
 fn main(rt: HostRuntime) -> ExitCode {
-    match print_dates(&rt) {
-        Ok(()) => ExitCode::SUCCESS,
-        Err(why) => complain(&rt, why),
-    }
+    end(&rt, "dates", print_dates(&rt))
 }

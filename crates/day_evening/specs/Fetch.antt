@@ -1,7 +1,7 @@
 -- The evening: the tablet asks a reader for all its records, joins and keeps them in a table of its own, whatever number the reader's log
 -- begins with, carries the day's stamps by that table, and asks the ramp whether two are of one beast.
-use Rattle.std.specs.Prelude.{Bool, true, false, List, [], ◌∷◌, ℕ, zero, suc, eqb, replicate, take}
-use Rattle.octets.specs.Choice.{both, pick}
+use Rattle.std.specs.Prelude.{Bool, true, false, List, [], ◌∷◌, ℕ, zero, suc, eqb, replicate, take, Option, Some, None}
+use Rattle.octets.specs.Choice.{pick}
 use Rattle.codes.specs.Racp.{report_opcode, all_records}
 use Rattle.clock.specs.declared.state.Clock.{Clock}
 use Rattle.update.specs.Start.{new_reader_of}
@@ -14,12 +14,10 @@ use Rattle.joining.specs.declared.joining.Joining.{Joining}
 use Rattle.joining.specs.declared.joining.Joined.{Joined}
 use Rattle.keep.specs.Keep.{Keeping, keep_of, keeping_number}
 use Rattle.carry.specs.Stamp.{carry_of}
-use Rattle.ramp.specs.Beast.{one_beast_of}
+use Rattle.ramp.specs.Beast.{Verdict, one_beast_of}
 use Rattle.ramp.specs.declared.beast.Seen.{Seen as Stamped}
-use Rattle.day_sheet.specs.declared.sheet.Ruling.{Ruling}
-use Rattle.day_sheet.specs.declared.sheet.Ruling.TheVariants.{NoPair, Said}
+use Rattle.day_sheet.specs.Sheet.{seen}
 use Rattle.day_sheet.specs.declared.sheet.Sight.{Sight}
-use Rattle.day_sheet.specs.declared.sheet.Sight.TheVariants.{Missed, Seen}
 use Rattle.day_play.specs.Reader.{output}
 use Rattle.day_play.specs.declared.reader.Note.{Note}
 use Rattle.day_play.specs.declared.reader.Reader.{Reader}
@@ -53,6 +51,10 @@ fetch c j t b = record { clock = c; joining = j; copy = t; closed = b }
 unfoldable pub asked_of : Clock → List ℕ → Fetch
 asked_of c t = fetch (access_of c t (report_opcode ∷ all_records ∷ []) output).reply.clock empty_joining (new_reader_of (replicate 528 0)).table false
 
+-- so many bytes are a segment, where they don't close the report
+abbrev pub segment_in : Bool → ℕ → Option ℕ
+segment_in closes n = pick closes None (Some n)
+
 -- a segment is joined; the closing response ends the fetching
 abbrev pub took_of : Fetch → Notice → Fetch
 took_of f n =
@@ -81,8 +83,9 @@ unfoldable pub fetched_of : Reader → List ℕ
 fetched_of r = finished_of (report_of r)
 
 -- what the sheet shows of a note: its stamp, and the stamp carried
-unfoldable pub sight_of : Note → List ℕ → Sight
-sight_of n t = pick n.seen (Seen n.stamp (carry_of n.stamp n.q t)) Missed
+unfoldable pub sight_of : Option Note → List ℕ → Option Sight
+sight_of (Some n) t = seen n.stamp (carry_of n.stamp n.q t)
+sight_of None t = None
 
 -- in seconds: beasts take seconds from one antenna to the other, three to six on an ordinary day
 abbrev pub window : ℕ
@@ -93,8 +96,8 @@ abbrev pub stamped : Note → ℕ → Stamped
 stamped n base = record { base = base; stamp = n.stamp; next = n.q }
 
 -- whether two notes of a tag are of one beast; where one of them is missing there is nothing to compare
-unfoldable pub ruling_of : Note → ℕ → List ℕ → Note → ℕ → List ℕ → Ruling
-ruling_of l leftBase leftTable r rightBase rightTable =
-    pick (both l.seen r.seen)
-    (Said (one_beast_of (stamped l leftBase) leftTable (stamped r rightBase) rightTable window))
-    NoPair
+unfoldable pub ruling_of : Option Note → ℕ → List ℕ → Option Note → ℕ → List ℕ → Option Verdict
+ruling_of (Some l) leftBase leftTable (Some r) rightBase rightTable =
+    Some (one_beast_of (stamped l leftBase) leftTable (stamped r rightBase) rightTable window)
+ruling_of (Some l) leftBase leftTable None rightBase rightTable = None
+ruling_of None leftBase leftTable r rightBase rightTable = None

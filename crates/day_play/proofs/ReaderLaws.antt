@@ -3,6 +3,7 @@
 use mathlib.Core.Path.{◌≡◌, refl, ap}
 use mathlib.Core.Bool.{Bool, true, false}
 use mathlib.Core.List.{List}
+use Rattle.std.proofs.Common.{Some}
 use Prim.Native.Nat.{ℕ, ◌+◌, ◌≤◌, ◌<◌}
 use native.Mathlib.Numerals.{add-one}
 use borrow.Author.Tests.{lt-ltb, le-ltb}
@@ -27,16 +28,16 @@ module _ (r : Reader) (place : ℕ) where
   unfolding read_of
   not_sound h = rw h (neither (ltb place 8))
     where
-      neither : (b : Bool) → r ≡ pick (both b false) (reader r.clock r.table (set r.notes place (note_of r))) r
+      neither : (b : Bool) → r ≡ pick (both b false) (reader r.clock r.table (set r.notes place (Some (note_of r)))) r
       neither true = refl
       neither false = refl
 
   pub noted : (q : ℕ) → place < 8 → sound_b r.table ≡ true → q ≡ next r.table
-      → reader r.clock r.table (set r.notes place (record { seen = true; stamp = r.clock.time.base; q = q })) ≡ read_of r place
+      → reader r.clock r.table (set r.notes place (Some (record { stamp = r.clock.time.base; q = q }))) ≡ read_of r place
   unfolding read_of
   noted q h s e =
       rw (lt-ltb place 8 h, s)
-      (ap (λ (n : ℕ). reader r.clock r.table (set r.notes place (record { seen = true; stamp = r.clock.time.base; q = n }))) e)
+      (ap (λ (n : ℕ). reader r.clock r.table (set r.notes place (Some (record { stamp = r.clock.time.base; q = n })))) e)
 
 -- one thing more of the day, and the day's end
 pub played_next : (v : Ramp) (day : List Happening) (i : ℕ) (d : Happening) → i < length day

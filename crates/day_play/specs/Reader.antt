@@ -1,6 +1,6 @@
 -- One antenna's reader over a day: each thing that happens is a call of the server, and "Clock and log go from each call to the next as the call
 -- left them".
-use Rattle.std.specs.Prelude.{true, false, List, [], ◌∷◌, ◌++◌, ℕ, ltb, replicate, set}
+use Rattle.std.specs.Prelude.{true, Option, Some, None, List, [], ◌∷◌, ◌++◌, ℕ, ltb, replicate, set}
 use Rattle.octets.specs.Choice.{both, pick}
 use Rattle.octets.specs.Numbers.{bytes4}
 use Rattle.table.specs.Table.{next, sound_b}
@@ -25,15 +25,12 @@ proposal_bytes base = propose_opcode ∷ 0x43 ∷ 0x00 ∷ (bytes4 base ++ (4 �
 abbrev pub output : List ℕ
 output = replicate least_output 0
 
-abbrev pub reader : Clock → List ℕ → List Note → Reader
+abbrev pub reader : Clock → List ℕ → List (Option Note) → Reader
 reader c t n = record { clock = c; table = t; notes = n }
-
-abbrev pub unseen : Note
-unseen = record { seen = false; stamp = 0; q = 0 }
 
 -- a buffer of eight slots, started; no tag was read
 unfoldable pub started_of : Reader
-started_of = let b = new_reader_of (replicate 528 0) in reader b.event.clock b.table (replicate 8 unseen)
+started_of = let b = new_reader_of (replicate 528 0) in reader b.event.clock b.table (replicate 8 None)
 
 unfoldable pub with_clock : Reader → Clock → Reader
 with_clock r c = reader c r.table r.notes
@@ -50,12 +47,12 @@ failed_of r = reader_after r (fault_of r.clock r.table output)
 
 -- "a stamp (unsigned 32 bits), its next sequence number q": the clock's Base_Time and the log's next number, at the tag's place
 abbrev pub note_of : Reader → Note
-note_of r = record { seen = true; stamp = r.clock.time.base; q = next r.table }
+note_of r = record { stamp = r.clock.time.base; q = next r.table }
 
 unfoldable pub read_of : Reader → ℕ → Reader
 read_of r place =
     pick (both (ltb place 8) (sound_b r.table))
-    (reader r.clock r.table (set r.notes place (note_of r)))
+    (reader r.clock r.table (set r.notes place (Some (note_of r))))
     r
 
 unfoldable pub lived_of : Reader → Event → Reader

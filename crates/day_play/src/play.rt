@@ -60,11 +60,8 @@ pub fn played(day: [Happening; 78]) -> Ramp
     ensures { result ≡ played_of opened_of day }
 {
     let mut ramp = opened();
-    let mut i = 0;
-    while i < 78 {
-        let h = day[i];
-        ramp = stepped(ramp, h);
-        i += 1;
+    for happening in day {
+        ramp = stepped(ramp, happening);
     }
     ramp
 }

@@ -1,10 +1,10 @@
 // One antenna's reader: its clock, its log of eight slots, what it noted of each tag. Then what can happen to it, and
-// `lived`, which goes by the event.
+// `lived`, which goes by the event. What the server's calls answer is not looked at: a refusal changes nothing.
 ghost use Rattle.std.specs.Prelude.{◌≡◌};
 ghost use Rattle.day_play.specs.Reader.{proposal_bytes, started_of, with_clock, set_of, failed_of, read_of, lived_of};
 
 use clock::events::{disconnect, seconds, switches};
-use clock::state::Clock;
+use clock::state::{Clock, new_reader};
 use codes::dtcp::PROPOSE_OPCODE;
 use octets::numbers::bytes4;
 use rows::rows::LEAST_OUTPUT;
@@ -17,7 +17,6 @@ use update::time_update::time_update;
 // A read of a tag: "stamp" is the reader's Base_Time then, q "its next sequence number".
 #[derive(Clone, Copy)]
 pub struct Note {
-    pub seen: bool,
     pub stamp: u32,
     pub q: u16,
 }
@@ -27,7 +26,7 @@ pub struct Reader {
     pub clock: Clock,
     pub table: [u8; 528],
     // by the tag's place in the day's list
-    pub notes: [Note; 8],
+    pub notes: [Option<Note>; 8],
 }
 
 #[derive(Clone, Copy)]
@@ -57,18 +56,13 @@ fn proposal(base: u32) -> [u8; 11]
 pub fn started() -> Reader
     ensures { result ≡ started_of }
 {
+    let mut clock = new_reader();
     let mut table = [0u8; 528];
-    let begun = start(&mut table);
-    let clock = begun.clock;
-    let nothing = Note {
-        seen: false,
-        stamp: 0,
-        q: 0,
-    };
+    let _ = start(&mut clock, &mut table);
     Reader {
         clock,
         table,
-        notes: [nothing; 8],
+        notes: [None; 8],
     }
 }
 
@@ -87,13 +81,12 @@ fn with_clock(r: Reader, clock: Clock) -> Reader
 fn set(r: Reader, base: u32) -> Reader
     ensures { result ≡ set_of r base }
 {
-    let before = r.clock;
+    let mut clock = r.clock;
     let mut table = r.table;
     let notes = r.notes;
     let write = proposal(base);
     let mut out = [0u8; LEAST_OUTPUT];
-    let reply = time_update(before, &mut table, &write, &mut out);
-    let clock = reply.clock;
+    let _ = time_update(&mut clock, &mut table, &write, &mut out);
     Reader {
         clock,
         table,
@@ -104,12 +97,11 @@ fn set(r: Reader, base: u32) -> Reader
 fn fail(r: Reader) -> Reader
     ensures { result ≡ failed_of r }
 {
-    let before = r.clock;
+    let mut clock = r.clock;
     let mut table = r.table;
     let notes = r.notes;
     let mut out = [0u8; LEAST_OUTPUT];
-    let reply = fault(before, &mut table, &mut out);
-    let clock = reply.clock;
+    let _ = fault(&mut clock, &mut table, &mut out);
     Reader {
         clock,
         table,
@@ -132,11 +124,10 @@ fn read(r: Reader, place: u8) -> Reader
         return r;
     }
     let q = next_number(&table);
-    notes[place as usize] = Note {
-        seen: true,
+    notes[place as usize] = Some(Note {
         stamp: clock.time.base,
         q,
-    };
+    });
     Reader {
         clock,
         table,
@@ -148,21 +139,18 @@ fn read(r: Reader, place: u8) -> Reader
 pub fn lived(r: Reader, e: Event) -> Reader
     ensures { result ≡ lived_of r e }
 {
-    let before = r.clock;
+    let mut clock = r.clock;
     match e {
         Event::Seconds(n) => {
-            let after = seconds(before, n);
-            let clock = after.clock;
+            let _ = seconds(&mut clock, n);
             with_clock(r, clock)
         }
         Event::Connect => {
-            let after = switches(before, true, true, true);
-            let clock = after.clock;
+            let _ = switches(&mut clock, true, true, true);
             with_clock(r, clock)
         }
         Event::Disconnect => {
-            let after = disconnect(before);
-            let clock = after.clock;
+            let _ = disconnect(&mut clock);
             with_clock(r, clock)
         }
         Event::Propose(base) => set(r, base),

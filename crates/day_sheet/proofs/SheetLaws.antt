@@ -3,6 +3,7 @@
 use mathlib.Core.Path.{◌≡◌, refl, ap, subst, ◌∙◌}
 use mathlib.Core.Bool.{Bool, true, false}
 use mathlib.Core.List.{List, [], ◌∷◌, ◌++◌, append_assoc}
+use Rattle.std.proofs.Common.{Option, Some, None, Ok, Err, Result}
 use Prim.Native.Nat.{ℕ, zero, suc, ◌+◌, ◌/◌, ◌^◌, ◌≤◌, ◌<◌}
 use native.Mathlib.Omega.{arith}
 use native.Mathlib.Nat.{pow-suc, not-suc-le-zero}
@@ -15,17 +16,15 @@ use Rattle.text.specs.Line.{fitted, decimal, digits_up_to, two_digits}
 use Rattle.text.proofs.TextLaws.{fitted_short, fitted_then}
 use Rattle.text.proofs.DecimalLaws.{decimal_one, decimal_more, decimal_short, decimal_short_any}
 use Rattle.carry.specs.Stamp.{carrying_number}
-use Rattle.carry.specs.declared.stamp.Carried.{Carried}
-use Rattle.carry.specs.declared.stamp.Carried.TheVariants.{To, TableNotSound, NotHeld, FaultAmong}
-use Rattle.ramp.specs.Beast.{verdict_number}
-use Rattle.ramp.specs.declared.beast.Verdict.{Verdict}
-use Rattle.ramp.specs.declared.beast.Verdict.TheVariants.{One, Two, WindowTooWide, LeftRefused, RightRefused}
+use Rattle.ramp.specs.Beast.{Verdict, verdict_number}
+use Rattle.ramp.specs.declared.beast.Beasts.TheVariants.{One, Two}
+use Rattle.ramp.specs.declared.beast.RampError.TheVariants.{WindowTooWide, LeftRefused, RightRefused}
 use Rattle.day_sheet.specs.Sheet.{time_of_day, noted_of, signed_of, outcome_of, carried_of, shown_text, seconds_in, gap, apart_text, pair_text, left_word, right_word, verdict_text, ruling_text, tag_line}
-use Rattle.day_sheet.specs.declared.sheet.Ruling.{Ruling}
 use Rattle.day_sheet.specs.declared.sheet.Shown.{Shown}
 use Rattle.day_sheet.specs.declared.sheet.Shown.TheVariants.{Nothing, At, Before, Refused}
 use Rattle.day_sheet.specs.declared.sheet.Sight.{Sight}
-use Rattle.day_sheet.specs.declared.sheet.Sight.TheVariants.{Missed, Seen}
+use Rattle.carry.specs.declared.stamp.CarryError.{CarryError}
+use Rattle.carry.specs.declared.stamp.CarryError.TheVariants.{FaultAmong, NotHeld, TableNotSound}
 
 -- a signed number below 0, and one that isn't
 pub below : (z : ℤ) → lt_z z (pos 0) ≡ true → Before ≡ signed_of z
@@ -43,12 +42,12 @@ at_size (pos n) t = refl
 at_size (negsuc n) t = absurd (subst T t tt)
 
 -- what is no stamp carried is a refusal
-pub refused_is : (c : Carried) {n : ℕ} → ((z : ℤ) → c ≡ To z → ⊥) → n ≡ carrying_number c → Refused n ≡ outcome_of c
+pub refused_is : (c : Result ℤ CarryError) {n : ℕ} → ((z : ℤ) → c ≡ Ok z → ⊥) → n ≡ carrying_number c → Refused n ≡ outcome_of c
 unfolding outcome_of
-refused_is (To z) h e = absurd (h z refl)
-refused_is TableNotSound h e = ap Refused e
-refused_is NotHeld h e = ap Refused e
-refused_is FaultAmong h e = ap Refused e
+refused_is (Ok z) h e = absurd (h z refl)
+refused_is (Err TableNotSound) h e = ap Refused e
+refused_is (Err NotHeld) h e = ap Refused e
+refused_is (Err FaultAmong) h e = ap Refused e
 
 -- one of two that is no time leaves `-`
 pub first_no_time : (x y : Shown) → ((n : ℕ) → x ≡ At n → ⊥) → 45 ∷ [] ≡ apart_text x y
@@ -86,15 +85,15 @@ pair_put l e f g = rw (e, f) at g
 
 -- a refusal's number, after its side where it has one
 module _ (v : Verdict) {m : ℕ} (e : m ≡ verdict_number v) where
-  pub no_side : v ≡ WindowTooWide → decimal m ≡ verdict_text v
+  pub no_side : v ≡ Err WindowTooWide → decimal m ≡ verdict_text v
   unfolding verdict_text verdict_number
   no_side f = rw (e, f)
 
-  pub left_side : {n : ℕ} → v ≡ LeftRefused n → left_word ++ decimal m ≡ verdict_text v
+  pub left_side : {n : ℕ} → v ≡ Err (LeftRefused n) → left_word ++ decimal m ≡ verdict_text v
   unfolding verdict_text verdict_number
   left_side f = rw (e, f)
 
-  pub right_side : {n : ℕ} → v ≡ RightRefused n → right_word ++ decimal m ≡ verdict_text v
+  pub right_side : {n : ℕ} → v ≡ Err (RightRefused n) → right_word ++ decimal m ≡ verdict_text v
   unfolding verdict_text verdict_number
   right_side f = rw (e, f)
 
@@ -124,17 +123,17 @@ unfolding signed_of shown_text
 signed_short (pos n) = time_short n
 signed_short (negsuc n) = omega arith
 
-outcome_short : (c : Carried) → length (shown_text (outcome_of c)) ≤ 10
+outcome_short : (c : Result ℤ CarryError) → length (shown_text (outcome_of c)) ≤ 10
 unfolding outcome_of shown_text carrying_number decimal digits_up_to
-outcome_short (To z) = omega (arith, signed_short z)
-outcome_short TableNotSound = omega arith
-outcome_short NotHeld = omega arith
-outcome_short FaultAmong = omega arith
+outcome_short (Ok z) = omega (arith, signed_short z)
+outcome_short (Err TableNotSound) = omega arith
+outcome_short (Err NotHeld) = omega arith
+outcome_short (Err FaultAmong) = omega arith
 
-carried_short : (s : Sight) → length (shown_text (carried_of s)) ≤ 10
+carried_short : (s : Option Sight) → length (shown_text (carried_of s)) ≤ 10
 unfolding carried_of shown_text
-carried_short Missed = omega arith
-carried_short (Seen stamp c) = outcome_short c
+carried_short None = omega arith
+carried_short (Some s) = outcome_short s.carried
 
 -- three columns without their spaces: two times apart by any number, or two refusals
 columns_short : (x y : Shown) → length (shown_text x) ≤ 10 → length (shown_text y) ≤ 10
@@ -149,13 +148,13 @@ columns_short Before y h k = omega arith
 columns_short (Refused n) y h k = omega arith
 
 -- of two stamps the times are apart by a number of 32 bits
-noted_short : (s u : Sight) → seconds_in (noted_of s) < 4294967296 → seconds_in (noted_of u) < 4294967296
+noted_short : (s u : Option Sight) → seconds_in (noted_of s) < 4294967296 → seconds_in (noted_of u) < 4294967296
     → length (shown_text (noted_of s)) + length (shown_text (noted_of u)) + length (apart_text (noted_of s) (noted_of u)) ≤ 26
 unfolding noted_of seconds_in apart_text shown_text gap
-noted_short (Seen a c) (Seen b d) h k = omega (arith, time_short a, time_short b, decimal_short (gap a b) (omega arith))
-noted_short (Seen a c) Missed h k = omega (arith, time_short a)
-noted_short Missed (Seen b d) h k = omega (arith, time_short b)
-noted_short Missed Missed h k = omega arith
+noted_short (Some s) (Some u) h k = omega (arith, time_short s.stamp, time_short u.stamp, decimal_short (gap s.stamp u.stamp) (omega arith))
+noted_short (Some s) None h k = omega (arith, time_short s.stamp)
+noted_short None (Some u) h k = omega (arith, time_short u.stamp)
+noted_short None None h k = omega arith
 
 pair_short : (n : ℕ) (x y : Shown) → length (shown_text x) + length (shown_text y) + length (apart_text x y) ≤ n → length (pair_text x y) ≤ n + 3
 unfolding pair_text
@@ -164,13 +163,13 @@ pair_short n x y h = simp length-append (omega arith)
 -- a refusal's number is a byte
 pub verdict_short : (v : Verdict) {n : ℕ} → n ≡ verdict_number v → n < 256 → length (verdict_text v) ≤ 9
 unfolding verdict_text verdict_number
-verdict_short One e h = omega arith
-verdict_short Two e h = omega arith
-verdict_short WindowTooWide e h = omega (arith, byte_short 18 (omega arith))
-verdict_short (LeftRefused n) e h = omega (arith, byte_short n (omega arith))
-verdict_short (RightRefused n) e h = omega (arith, byte_short n (omega arith))
+verdict_short (Ok One) e h = omega arith
+verdict_short (Ok Two) e h = omega arith
+verdict_short (Err WindowTooWide) e h = omega (arith, byte_short 18 (omega arith))
+verdict_short (Err (LeftRefused n)) e h = omega (arith, byte_short n (omega arith))
+verdict_short (Err (RightRefused n)) e h = omega (arith, byte_short n (omega arith))
 
-module _ (tag : ℕ) (left right : Sight) (ruling : Ruling) where
+module _ (tag : ℕ) (left right : Option Sight) (ruling : Option Verdict) where
   -- what is known of the numbers in a line by their types
   pub record Sized : Type 0 where
     pub tag_fits : tag < 65536

@@ -1,43 +1,44 @@
 -- The drivers' sheet: a line for each ear tag, with the stamps that both antennas noted, the seconds between them, the same stamps carried over
 -- the clock changes logged after them, the seconds between those, and whether it was one beast. Text is ASCII: 10 ends a line, 32 is a space,
 -- 45 is `-`, 58 is `:`, 124 is `|`.
-use Rattle.std.specs.Prelude.{List, [], ◌∷◌, ◌++◌, ℕ, ◌+◌, ◌-◌, ◌/◌, ◌%◌, ℤ, pos, negsuc}
+use Rattle.std.specs.Prelude.{List, [], ◌∷◌, ◌++◌, ℕ, ◌+◌, ◌-◌, ◌/◌, ◌%◌, ℤ, pos, negsuc, Option, Some, None, Ok, Err, Result}
 use Rattle.text.specs.Line.{decimal, two_digits}
 use Rattle.carry.specs.Stamp.{carrying_number}
-use Rattle.carry.specs.declared.stamp.Carried.{Carried}
-use Rattle.carry.specs.declared.stamp.Carried.TheVariants.{To, TableNotSound, NotHeld, FaultAmong}
-use Rattle.ramp.specs.Beast.{verdict_number}
-use Rattle.ramp.specs.declared.beast.Verdict.{Verdict}
-use Rattle.ramp.specs.declared.beast.Verdict.TheVariants.{One, Two, WindowTooWide, LeftRefused, RightRefused}
-use Rattle.day_sheet.specs.declared.sheet.Ruling.{Ruling}
-use Rattle.day_sheet.specs.declared.sheet.Ruling.TheVariants.{NoPair, Said}
+use Rattle.ramp.specs.Beast.{Verdict, verdict_number}
+use Rattle.ramp.specs.declared.beast.Beasts.TheVariants.{One, Two}
+use Rattle.ramp.specs.declared.beast.RampError.TheVariants.{WindowTooWide, LeftRefused, RightRefused}
 use Rattle.day_sheet.specs.declared.sheet.Shown.{Shown}
 use Rattle.day_sheet.specs.declared.sheet.Shown.TheVariants.{Nothing, At, Before, Refused}
 use Rattle.day_sheet.specs.declared.sheet.Sight.{Sight}
-use Rattle.day_sheet.specs.declared.sheet.Sight.TheVariants.{Missed, Seen}
+use Rattle.carry.specs.declared.stamp.CarryError.{CarryError}
+use Rattle.carry.specs.declared.stamp.CarryError.TheVariants.{FaultAmong, NotHeld, TableNotSound}
+
+-- what an antenna that saw a tag has of it: the stamp that it noted, and what carrying made of it
+abbrev pub seen : ℕ → Result ℤ CarryError → Option Sight
+seen stamp carried = Some (record { stamp = stamp; carried = carried })
 
 -- The time of day of a Base_Time, hh:mm:ss. Base_Time counts from a midnight, and a day has 86,400 seconds.
 unfoldable pub time_of_day : ℕ → List ℕ
 time_of_day base = two_digits (base / 3600 % 24) ++ (58 ∷ (two_digits (base / 60 % 60) ++ (58 ∷ two_digits (base % 60))))
 
 -- what is shown of a stamp as it was noted, and of the stamp carried; "The result is signed", and a time before 2000 is no reader's
-unfoldable pub noted_of : Sight → Shown
-noted_of Missed = Nothing
-noted_of (Seen stamp carried) = At stamp
+unfoldable pub noted_of : Option Sight → Shown
+noted_of None = Nothing
+noted_of (Some s) = At s.stamp
 
 unfoldable pub signed_of : ℤ → Shown
 signed_of (pos n) = At n
 signed_of (negsuc n) = Before
 
-unfoldable pub outcome_of : Carried → Shown
-outcome_of (To z) = signed_of z
-outcome_of TableNotSound = Refused (carrying_number TableNotSound)
-outcome_of NotHeld = Refused (carrying_number NotHeld)
-outcome_of FaultAmong = Refused (carrying_number FaultAmong)
+unfoldable pub outcome_of : Result ℤ CarryError → Shown
+outcome_of (Ok z) = signed_of z
+outcome_of (Err TableNotSound) = Refused (carrying_number (Err TableNotSound))
+outcome_of (Err NotHeld) = Refused (carrying_number (Err NotHeld))
+outcome_of (Err FaultAmong) = Refused (carrying_number (Err FaultAmong))
 
-unfoldable pub carried_of : Sight → Shown
-carried_of Missed = Nothing
-carried_of (Seen stamp carried) = outcome_of carried
+unfoldable pub carried_of : Option Sight → Shown
+carried_of None = Nothing
+carried_of (Some s) = outcome_of s.carried
 
 -- `before`
 abbrev pub before_word : List ℕ
@@ -95,19 +96,19 @@ right_word = 114 ∷ 105 ∷ 103 ∷ 104 ∷ 116 ∷ 32 ∷ []
 
 -- "one", "two", or "the side and number of the refusal"; 18 has no side
 unfoldable pub verdict_text : Verdict → List ℕ
-verdict_text One = one_word
-verdict_text Two = two_word
-verdict_text WindowTooWide = decimal (verdict_number WindowTooWide)
-verdict_text (LeftRefused number) = left_word ++ decimal number
-verdict_text (RightRefused number) = right_word ++ decimal number
+verdict_text (Ok One) = one_word
+verdict_text (Ok Two) = two_word
+verdict_text (Err WindowTooWide) = decimal (verdict_number (Err WindowTooWide))
+verdict_text (Err (LeftRefused number)) = left_word ++ decimal number
+verdict_text (Err (RightRefused number)) = right_word ++ decimal number
 
 -- where an antenna missed the tag there is nothing to compare
-unfoldable pub ruling_text : Ruling → List ℕ
-ruling_text NoPair = 45 ∷ []
-ruling_text (Said v) = verdict_text v
+unfoldable pub ruling_text : Option Verdict → List ℕ
+ruling_text None = 45 ∷ []
+ruling_text (Some v) = verdict_text v
 
 -- a tag's line: the stamps as they were noted, ` |`, the stamps carried, ` | `, and one beast or two
-unfoldable pub tag_line : ℕ → Sight → Sight → Ruling → List ℕ
+unfoldable pub tag_line : ℕ → Option Sight → Option Sight → Option Verdict → List ℕ
 tag_line tag left right ruling =
     decimal tag
     ++ (pair_text (noted_of left) (noted_of right)

@@ -1,24 +1,17 @@
 // A tag's line on the sheet: what both antennas noted of it, the same stamps carried, and whether it was one beast.
 ghost use Rattle.std.specs.Prelude.{◌≡◌, ◌++◌, ◌≤◌, ◌<◌, length};
 ghost use Rattle.text.specs.Line.{text_of, fitted, two_digits};
-ghost use Rattle.day_sheet.specs.Sheet.{time_of_day, seconds_in, noted_of, signed_of, outcome_of, carried_of, shown_text, gap as Sheet·gap, apart_text, pair_text, verdict_text, ruling_text, tag_line, title_line};
+ghost use Rattle.day_sheet.specs.Sheet.{time_of_day, seconds_in, noted_of, signed_of, outcome_of, carried_of, shown_text, apart_text, pair_text, verdict_text, ruling_text, tag_line, title_line};
 
-use carry::stamp::{Carried, carrying_number};
-use ramp::beast::{Verdict, verdict_number};
+use carry::stamp::{CarryError, carrying_number};
+use ramp::beast::{Beasts, RampError, verdict_number};
 use text::line::{Line, empty, with_byte, with_number, with_word};
 
-// What one antenna has of a tag: the stamp that it noted, and what carrying made of it.
+// What an antenna that saw a tag has of it: the stamp that it noted, and what carrying made of it.
 #[derive(Clone, Copy)]
-pub enum Sight {
-    Missed,
-    Seen(u32, Carried),
-}
-
-// One beast or two: where an antenna missed the tag there is no pair of stamps to compare.
-#[derive(Clone, Copy)]
-pub enum Ruling {
-    NoPair,
-    Said(Verdict),
+pub struct Sight {
+    pub stamp: u32,
+    pub carried: Result<i64, CarryError>,
 }
 
 // What stands in a column of times.
@@ -48,12 +41,12 @@ fn with_time(line: Line, base: u64) -> Line
 }
 
 // A stamp has 32 bits, so two of them are apart by a number of at most ten digits.
-fn noted(s: Sight) -> Shown
+fn noted(s: Option<Sight>) -> Shown
     ensures { (result ≡ noted_of s) × (seconds_in result < 4294967296) }
 {
     match s {
-        Sight::Missed => Shown::Nothing,
-        Sight::Seen(stamp, _) => Shown::At(stamp as u64),
+        None => Shown::Nothing,
+        Some(sight) => Shown::At(sight.stamp as u64),
     }
 }
 
@@ -66,21 +59,21 @@ fn signed(z: i64) -> Shown
     Shown::At(z as u64)
 }
 
-fn outcome(c: Carried) -> Shown
+fn outcome(c: Result<i64, CarryError>) -> Shown
     ensures { result ≡ outcome_of c }
 {
-    let Carried::To(z) = c else {
+    let Ok(z) = c else {
         return Shown::Refused(carrying_number(c));
     };
     signed(z)
 }
 
-fn carried(s: Sight) -> Shown
+fn carried(s: Option<Sight>) -> Shown
     ensures { result ≡ carried_of s }
 {
     match s {
-        Sight::Missed => Shown::Nothing,
-        Sight::Seen(_, c) => outcome(c),
+        None => Shown::Nothing,
+        Some(sight) => outcome(sight.carried),
     }
 }
 
@@ -98,12 +91,6 @@ fn with_shown(line: Line, x: Shown) -> Line
     }
 }
 
-fn gap(a: u64, b: u64) -> u64
-    ensures { result ≡ Sheet·gap a b }
-{
-    if a < b { b - a } else { a - b }
-}
-
 // The seconds apart, or `-` where one of the two is no time.
 fn with_apart(line: Line, x: Shown, y: Shown) -> Line
     ensures { text_of result ≡ fitted (text_of line ++ apart_text x y) }
@@ -114,7 +101,7 @@ fn with_apart(line: Line, x: Shown, y: Shown) -> Line
     let Shown::At(b) = y else {
         return with_byte(line, b'-');
     };
-    with_number(line, gap(a, b))
+    with_number(line, a.abs_diff(b))
 }
 
 fn with_pair(line: Line, x: Shown, y: Shown) -> Line
@@ -126,30 +113,36 @@ fn with_pair(line: Line, x: Shown, y: Shown) -> Line
 }
 
 // `one`, `two`, or a refusal's number, after its side where it has one: at most `right 255`.
-fn with_verdict(line: Line, v: Verdict) -> Line
+fn with_verdict(line: Line, v: Result<Beasts, RampError>) -> Line
     ensures { (text_of result ≡ fitted (text_of line ++ verdict_text v)) × (length (verdict_text v) ≤ 9) }
 {
     let number = verdict_number(v) as u64;
     match v {
-        Verdict::One => with_word(line, b"one"),
-        Verdict::Two => with_word(line, b"two"),
-        Verdict::WindowTooWide => with_number(line, number),
-        Verdict::LeftRefused(_) => with_number(with_word(line, b"left "), number),
-        Verdict::RightRefused(_) => with_number(with_word(line, b"right "), number),
+        Ok(Beasts::One) => with_word(line, b"one"),
+        Ok(Beasts::Two) => with_word(line, b"two"),
+        Err(RampError::WindowTooWide) => with_number(line, number),
+        Err(RampError::LeftRefused(_)) => with_number(with_word(line, b"left "), number),
+        Err(RampError::RightRefused(_)) => with_number(with_word(line, b"right "), number),
     }
 }
 
-fn with_ruling(line: Line, r: Ruling) -> Line
-    ensures { (text_of result ≡ fitted (text_of line ++ ruling_text r)) × (length (ruling_text r) ≤ 9) }
+// Where an antenna missed the tag there is no pair of stamps to compare, and no verdict.
+fn with_ruling(line: Line, ruling: Option<Result<Beasts, RampError>>) -> Line
+    ensures { (text_of result ≡ fitted (text_of line ++ ruling_text ruling)) × (length (ruling_text ruling) ≤ 9) }
 {
-    match r {
-        Ruling::NoPair => with_byte(line, b'-'),
-        Ruling::Said(v) => with_verdict(line, v),
+    match ruling {
+        None => with_byte(line, b'-'),
+        Some(v) => with_verdict(line, v),
     }
 }
 
 // One tag's line. No part of it is dropped: it has at most 88 bytes.
-pub fn tag_line(tag: u16, left: Sight, right: Sight, ruling: Ruling) -> Line
+pub fn tag_line(
+    tag: u16,
+    left: Option<Sight>,
+    right: Option<Sight>,
+    ruling: Option<Result<Beasts, RampError>>,
+) -> Line
     ensures { text_of result ≡ tag_line tag left right ruling }
 {
     let number = with_number(empty(), tag as u64);

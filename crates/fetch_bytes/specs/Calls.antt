@@ -1,15 +1,14 @@
 -- The calls on the map over what C lends (change request E10): "at least 0 is done, below 0 is minus the paper's refusal number".
-use Rattle.std.specs.Prelude.{List, ℕ, ◌≤◌, ◌≡◌, ℤ, pos}
+use Rattle.std.specs.Prelude.{List, Some, None, Result, Ok, Err, ℕ, ℤ, pos}
 use Rattle.state_bytes.specs.Results.{refusal}
-use Rattle.fetch_map.specs.Map.{tell_of, take_of, received_of, mapped_number, tally_number}
-use Rattle.fetch_propose.specs.Propose.{propose_of, proposal_number}
-use Rattle.fetch_map.specs.declared.tell.Mapped.{Mapped}
-use Rattle.fetch_propose.specs.declared.propose.Proposal.{Proposal}
-use Rattle.fetch_propose.specs.declared.propose.Proposal.TheVariants.{Missing, NothingMissing, WrongWords}
-use Rattle.fetch_map.specs.declared.count.Tally.{Tally}
-use Rattle.fetch_map.specs.declared.count.Tally.TheVariants.{Received, WrongWords as NotCounted}
+use Rattle.fetch_map.specs.Map.{Mapped, tell_of, take_of, received_of, refusal_number, mapped_number, tally_number}
+use Rattle.fetch_map.specs.declared.refusal.Refusal.{Refusal}
+use Rattle.fetch_propose.specs.Propose.{Proposal, propose_of, proposal_number}
 use Rattle.fetch_bytes.specs.Told.{told_at, range_of, told_after}
 use Rattle.fetch_bytes.specs.Request.{request_after}
+
+abbrev pub refused : Refusal → ℤ
+refused why = refusal (refusal_number why)
 
 -- ---- telling
 
@@ -35,9 +34,9 @@ tell_at m t any oldest newest =
 
 -- the bytes of the request, 7, or 0 where nothing is missing
 unfoldable pub proposal_result : Proposal → ℤ
-proposal_result (Missing first last) = pos 7
-proposal_result NothingMissing = pos 0
-proposal_result WrongWords = refusal (proposal_number WrongWords)
+proposal_result (Ok (Some run)) = pos 7
+proposal_result (Ok None) = pos 0
+proposal_result (Err why) = refusal (proposal_number (Err why))
 
 -- the result, and the request's bytes after it
 pub record Proposed : Type 0 where
@@ -65,13 +64,9 @@ take_at m t number = let x = take_of m (told_at t) number in mapped (mapped_resu
 
 -- ---- how many are received
 
-unfoldable pub tally_result : Tally → ℤ
-tally_result (Received n) = pos n
-tally_result NotCounted = refusal (tally_number NotCounted)
-
--- a count that fits the result: what the function behind the call requires
-abbrev pub CountsFew : Tally → Type 0
-CountsFew t = (n : ℕ) → t ≡ Received n → n ≤ 65536
+unfoldable pub tally_result : Result ℕ Refusal → ℤ
+tally_result (Ok n) = pos n
+tally_result (Err why) = refusal (tally_number (Err why))
 
 unfoldable pub received_at : List ℕ → ℤ
 received_at m = tally_result (received_of m)

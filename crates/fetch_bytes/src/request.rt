@@ -1,9 +1,8 @@
 // The request that a tablet sends for a proposed run: Report Stored Records, within the range from its first number to its last.
 ghost use Rattle.std.specs.Prelude.{◌≡◌};
-ghost use Rattle.fetch_bytes.specs.Request.{request_bytes, request_after};
+ghost use Rattle.fetch_bytes.specs.Request.{request_bytes};
 
 use codes::racp::{REPORT_OPCODE, SEQUENCE_TYPE, WITHIN_RANGE};
-use fetch_propose::propose::Proposal;
 use octets::numbers::bytes2;
 
 pub fn request_bytes(first: u16, last: u16) -> [u8; 7]
@@ -20,15 +19,4 @@ pub fn request_bytes(first: u16, last: u16) -> [u8; 7]
         b[0],
         b[1],
     ]
-}
-
-// The request's bytes after a proposal: as they were where there is nothing to ask for.
-pub(crate) fn request_after(p: Proposal, before: [u8; 7]) -> [u8; 7]
-    ensures { result ≡ request_after p before }
-{
-    match p {
-        Proposal::Missing(first, last) => request_bytes(first, last),
-        Proposal::NothingMissing => before,
-        Proposal::WrongWords => before,
-    }
 }

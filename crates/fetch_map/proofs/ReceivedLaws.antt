@@ -2,6 +2,7 @@
 -- Assumes nothing.
 use mathlib.Core.Path.{◌≡◌, refl, sym, ap, ◌∙◌}
 use mathlib.Core.Bool.{Bool, true, false}
+use Rattle.std.proofs.Common.{Option}
 use mathlib.Core.List.{List, [], ◌∷◌}
 use Prim.Native.Nat.{ℕ, zero, suc, ◌+◌, ◌*◌, ◌/◌, ◌%◌, ◌<◌}
 use native.Mathlib.Nat.{le_of_suc-le-suc, not-suc-le-zero}
@@ -17,12 +18,12 @@ use Rattle.fetch_word.specs.Bits.{bit_b, with_bit}
 use Rattle.fetch_word.proofs.BitLaws.{word_at}
 use Rattle.fetch_told.specs.Told.{inside_b}
 use Rattle.fetch_map.specs.Map.{received_b, inside_from, taken_in}
-use Rattle.fetch_told.specs.declared.told.Told.{Told}
+use Rattle.fetch_told.specs.declared.told.Span.{Span}
 
 -- ---- telling
 
 -- bit b of word w, where the first word's numbers begin with s
-inside_bit : (told : Told) (s : ℕ) (m : List ℕ) (w b : ℕ) → w < length m → b < 64
+inside_bit : (told : Option Span) (s : ℕ) (m : List ℕ) (w b : ℕ) → w < length m → b < 64
     → bit_b (at (inside_from told s m) w) b ≡ both (bit_b (at m w) b) (inside_b told (s + 64 * w + b))
 unfolding inside_from
 inside_bit told s [] w b h k = absurd (not-suc-le-zero h)
@@ -33,7 +34,7 @@ inside_bit told s (x ∷ m) (suc w) b h k =
     let e : s + 64 + 64 * w + b ≡ s + 64 * suc w + b = omega arith in
     inside_bit told (s + 64) m w b (le_of_suc-le-suc h) k ∙ ap (λ (n : ℕ). both (bit_b (at m w) b) (inside_b told n)) e
 
-pub tell_bit : (told : Told) (m : List ℕ) (s : ℕ) → length m ≡ 1024 → s < 65536
+pub tell_bit : (told : Option Span) (m : List ℕ) (s : ℕ) → length m ≡ 1024 → s < 65536
     → received_b (inside_from told 0 m) s ≡ both (received_b m s) (inside_b told s)
 unfolding received_b
 tell_bit told m s whole h =
@@ -47,7 +48,7 @@ tell_bit told m s whole h =
 abbrev with_number : List ℕ → ℕ → List ℕ
 with_number m n = set m (n / 64) (with_bit (at m (n / 64)) (n % 64))
 
-pub take_words : (told : Told) (m : List ℕ) (n : ℕ) → length (taken_in m told n) ≡ length m
+pub take_words : (told : Option Span) (m : List ℕ) (n : ℕ) → length (taken_in m told n) ≡ length m
 unfolding taken_in
 take_words told m n = go (inside_b told n)
   where
@@ -91,7 +92,7 @@ module _ (m : List ℕ) (s n : ℕ) (whole : length m ≡ 1024) (small : n < 655
           rw (get_or-set_other m (n / 64) (s / 64) x 0 other, ne_eqb s n (λ q. other (omega arith)))
           (sym (either_false (bit_b (at m (s / 64)) (s % 64))))
 
-  pub take_bit : (told : Told) → received_b (taken_in m told n) s ≡ either (received_b m s) (both (eqb s n) (inside_b told n))
+  pub take_bit : (told : Option Span) → received_b (taken_in m told n) s ≡ either (received_b m s) (both (eqb s n) (inside_b told n))
   unfolding taken_in
   take_bit told = go (inside_b told n)
     where

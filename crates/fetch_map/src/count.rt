@@ -1,35 +1,27 @@
 // How many numbers are received.
-ghost use Rattle.std.specs.Prelude.{◌≡◌, length};
+ghost use Rattle.std.specs.Prelude.{◌≡◌};
 ghost use Rattle.fetch_map.specs.Map.{ones_of, received_of};
 
+use crate::refusal::Refusal;
 use fetch_told::told::MAP_WORDS;
 use fetch_word::word::ones;
 
-#[derive(Clone, Copy)]
-pub enum Tally {
-    Received(u32),
-    WrongWords,
-}
-
-fn all_ones(map: &[u64]) -> u32
-    requires { length map.now ≡ 1024 }
-    ensures { result ≡ ones_of map.now }
+fn all_ones(words: &[u64; MAP_WORDS]) -> u32
+    ensures { result ≡ ones_of words.now }
 {
     let mut sum = 0;
-    let mut w = 0;
-    while w < MAP_WORDS {
-        sum += ones(map[w]);
-        w += 1;
+    for x in words {
+        sum += ones(*x);
     }
     sum
 }
 
 // "The number received is the count of ones". Refuses: 3.
-pub fn received(map: &[u64]) -> Tally
+pub fn received(map: &[u64]) -> Result<u32, Refusal>
     ensures { result ≡ received_of map.now }
 {
-    if map.len() != MAP_WORDS {
-        return Tally::WrongWords;
-    }
-    Tally::Received(all_ones(map))
+    let Some(words) = map.as_array() else {
+        return Err(Refusal::WrongWords);
+    };
+    Ok(all_ones(words))
 }

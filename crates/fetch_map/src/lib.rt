@@ -2,5 +2,6 @@
 #![tactic(auto)]
 
 pub mod count;
+pub mod refusal;
 pub mod take;
 pub mod tell;

@@ -2,8 +2,9 @@
 -- Assumes nothing.
 use mathlib.Core.Path.{◌≡◌, refl, sym, ap, ap₂, ◌∙◌}
 use mathlib.Core.Bool.{Bool, true, false}
+use Rattle.std.proofs.Common.{Some, None}
 use mathlib.Core.List.{List, [], ◌∷◌, ◌++◌}
-use Prim.Native.Nat.{ℕ, ◌+◌, ◌*◌, ◌-◌, ◌/◌, ◌%◌, ◌^◌, ◌≤◌, ◌<◌}
+use Prim.Native.Nat.{ℕ, ◌+◌, ◌*◌, ◌-◌, ◌/◌, ◌%◌, ◌^◌, ◌≤◌, ◌<◌, min}
 use native.Mathlib.Nat.{zero-add, div-one}
 use native.Mathlib.Omega.{arith}
 use borrow.Author.Tests.{eq-eqb, ne_eqb, eqb-true, eqb-false, leb-true, leb-false}
@@ -14,13 +15,13 @@ use Rattle.octets.specs.Choice.{pick}
 use Rattle.octets.specs.Numbers.{at}
 use Rattle.octets.proofs.Tests.{clash}
 use Rattle.fetch_word.specs.Bits.{bit_b, row}
-use Rattle.fetch_word.specs.Run.{run, look_at, look_all, unseen, received_first, missing_first, least}
+use Rattle.fetch_word.specs.Run.{run, look_at, look_all, unseen, received_first, missing_first}
 use Rattle.fetch_word.specs.declared.run.Run.{Run}
 use Rattle.fetch_word.proofs.BitLaws.{shifted_bit, row_alike, row_append, row_length}
 use Rattle.fetch_word.proofs.RunLaws.{look_append, look_ended, look_before, look_begins, received_most}
+use Rattle.fetch_told.specs.Told.{span}
 use Rattle.fetch_map.specs.Map.{received_b}
 use Rattle.fetch_propose.specs.Propose.{number_at, numbers_from, run_after, run_among}
-use Rattle.fetch_propose.specs.declared.propose.Proposal.TheVariants.{Missing, NothingMissing}
 use Rattle.fetch_propose.specs.Search.{Within, left_of, searched_from, WentRound}
 
 -- ---- numbers in a row
@@ -130,14 +131,6 @@ pub none_searched : (m : List ℕ) (w : ℕ) (s : Run) (size : ℕ) → left_of 
 unfolding searched_from look_all
 none_searched m w s size e = ap (λ (n : ℕ). look_all s (numbers_from m (64 * w) n)) e ∙ ap (look_all s) (none_left m (64 * w))
 
--- the smaller of two is neither larger
-pub least_fits : (a b : ℕ) → (least a b ≤ a) × (least a b ≤ b)
-least_fits a b = go (leb a b) refl
-  where
-    go : (t : Bool) → leb a b ≡ t → (pick t a b ≤ a) × (pick t a b ≤ b)
-    go true e = (omega arith, omega (arith, leb-true a b e))
-    go false e = (omega (arith, leb-false a b e), omega arith)
-
 -- no number looked at
 pub look_none : (s : Run) (x n : ℕ) → n ≡ 0 → s ≡ look_all s (row (bit_b x) n)
 unfolding look_all row
@@ -172,16 +165,13 @@ module _ (m : List ℕ) (size : ℕ) (s : Run) (within : Within size s) (l : Lis
 -- from the number p on, to the end of its word
 module _ (m : List ℕ) (size : ℕ) (s : Run) (within : Within size s) (p : ℕ) (hp : p < 65536) where
   abbrev pub few : ℕ
-  few = least (64 - p % 64) (left_of s size)
+  few = min (left_of s size) (64 - p % 64)
 
   abbrev pub looked : Run
   looked = look_all s (row (bit_b (at m (p / 64) / 2 ^ (p % 64))) few)
 
-  few_fits : (few ≤ 64 - p % 64) × (few ≤ left_of s size)
-  few_fits = least_fits (64 - p % 64) (left_of s size)
-
   row_fits : length (row (bit_b (at m (p / 64) / 2 ^ (p % 64))) few) ≤ left_of s size
-  row_fits = rw (row_length (bit_b (at m (p / 64) / 2 ^ (p % 64))) few) few_fits.1
+  row_fits = rw (row_length (bit_b (at m (p / 64) / 2 ^ (p % 64))) few) (omega arith)
 
   pub looked_within : Within size looked
   looked_within = within_on m size s within (row (bit_b (at m (p / 64) / 2 ^ (p % 64))) few) row_fits
@@ -193,10 +183,10 @@ module _ (m : List ℕ) (size : ℕ) (s : Run) (within : Within size s) (p : ℕ
 
   looked_on : look_all s (numbers_from m p (left_of s size)) ≡ look_all looked (numbers_from m ((p + few) % 65536) (left_of looked size))
   looked_on =
-      let e : few + (left_of s size - few) ≡ left_of s size = omega (arith, few_fits.1) in
+      let e : few + (left_of s size - few) ≡ left_of s size = omega arith in
       let l = row (bit_b (at m (p / 64) / 2 ^ (p % 64))) few in
       ap (λ (n : ℕ). look_all s (numbers_from m p n)) (sym e)
-      ∙ ap (look_all s) (numbers_split m p few (left_of s size - few) hp (omega (arith, few_fits.0)))
+      ∙ ap (look_all s) (numbers_split m p few (left_of s size - few) hp (omega arith))
       ∙ look_append s l (numbers_from m ((p + few) % 65536) (left_of s size - few))
       ∙ ap (λ (n : ℕ). look_all looked (numbers_from m ((p + few) % 65536) (left_of s size - n))) (sym (row_length (bit_b (at m (p / 64) / 2 ^ (p % 64))) few))
       ∙ rest_alike m size s within l row_fits ((p + few) % 65536)
@@ -208,11 +198,11 @@ module _ (m : List ℕ) (size : ℕ) (s : Run) (within : Within size s) (p : ℕ
       go : (t : Bool) → leb (64 - p % 64) (left_of s size) ≡ t
           → look_all looked (numbers_from m ((p + few) % 65536) (left_of looked size)) ≡ searched_from m ((p / 64 + 1) % 1024) looked size
       go true e =
-          let f : few ≡ 64 - p % 64 = ap (λ (t : Bool). pick t (64 - p % 64) (left_of s size)) e in
+          let f : few ≡ 64 - p % 64 = omega (arith, leb-true (64 - p % 64) (left_of s size) e) in
           let q : (p + few) % 65536 ≡ 64 * ((p / 64 + 1) % 1024) = omega arith in
           ap (λ (k : ℕ). look_all looked (numbers_from m k (left_of looked size))) q
       go false e =
-          let f : few ≡ left_of s size = ap (λ (t : Bool). pick t (64 - p % 64) (left_of s size)) e in
+          let f : few ≡ left_of s size = omega (arith, leb-false (64 - p % 64) (left_of s size) e) in
           let z : left_of looked size ≡ 0 = omega (arith, looked_less) in
           ap (λ (n : ℕ). look_all looked (numbers_from m ((p + few) % 65536) n)) z
           ∙ ap (look_all looked) (none_left m ((p + few) % 65536) ∙ sym (none_left m (64 * ((p / 64 + 1) % 1024))))
@@ -221,7 +211,7 @@ module _ (m : List ℕ) (size : ℕ) (s : Run) (within : Within size s) (p : ℕ
 -- a whole word, or as much of it as is left
 module _ (m : List ℕ) (size : ℕ) (s : Run) (within : Within size s) (w : ℕ) (hw : w < 1024) where
   abbrev pub after_word : Run
-  after_word = look_all s (row (bit_b (at m w)) (least 64 (left_of s size)))
+  after_word = look_all s (row (bit_b (at m w)) (min (left_of s size) 64))
 
   start : 64 * w < 65536
   start = omega arith
@@ -231,9 +221,9 @@ module _ (m : List ℕ) (size : ℕ) (s : Run) (within : Within size s) (w : ℕ
       let q : 64 * w % 64 ≡ 0 = omega arith in
       let d : 64 * w / 64 ≡ w = omega arith in
       let left = left_of s size in
-      ap (λ (r : ℕ). look_all s (row (bit_b (at m (64 * w / 64) / 2 ^ r)) (least (64 - r) left))) q
-      ∙ ap (λ (v : ℕ). look_all s (row (bit_b (at m v / 2 ^ 0)) (least 64 left))) d
-      ∙ ap (λ (x : ℕ). look_all s (row (bit_b x) (least 64 left))) (div-one (at m w))
+      ap (λ (r : ℕ). look_all s (row (bit_b (at m (64 * w / 64) / 2 ^ r)) (min left (64 - r)))) q
+      ∙ ap (λ (v : ℕ). look_all s (row (bit_b (at m v / 2 ^ 0)) (min left 64))) d
+      ∙ ap (λ (x : ℕ). look_all s (row (bit_b x) (min left 64))) (div-one (at m w))
 
   pub word_within : Within size after_word
   word_within = rw whole_is at (looked_within m size s within (64 * w) start)
@@ -241,13 +231,9 @@ module _ (m : List ℕ) (size : ℕ) (s : Run) (within : Within size s) (w : ℕ
   pub word_less : left_of after_word size ≤ left_of s size - 64
   word_less =
       let q : 64 * w % 64 ≡ 0 = omega arith in
-      let f : few m size s within (64 * w) start ≡ least 64 (left_of s size) = ap (λ (r : ℕ). least (64 - r) (left_of s size)) q in
-      let h : left_of after_word size ≤ left_of s size - least 64 (left_of s size) = rw (whole_is, f) at (looked_less m size s within (64 * w) start) in
-      go (leb 64 (left_of s size)) h
-    where
-      go : (t : Bool) → left_of after_word size ≤ left_of s size - pick t 64 (left_of s size) → left_of after_word size ≤ left_of s size - 64
-      go true h = h
-      go false h = omega arith
+      let f : few m size s within (64 * w) start ≡ min (left_of s size) 64 = ap (λ (r : ℕ). min (left_of s size) (64 - r)) q in
+      let h : left_of after_word size ≤ left_of s size - min (left_of s size) 64 = rw (whole_is, f) at (looked_less m size s within (64 * w) start) in
+      omega arith
 
   pub word_same : searched_from m w s size ≡ searched_from m ((w + 1) % 1024) after_word size
   unfolding searched_from
@@ -261,7 +247,7 @@ module _ (m : List ℕ) (size : ℕ) (s : Run) (within : Within size s) (w : ℕ
 
 module _ (m : List ℕ) (oldest size : ℕ) (ho : oldest < 65536) (some : 1 ≤ size) (most : size ≤ 65536) where
   abbrev pub begun : Run
-  begun = look_all unseen (row (bit_b (at m (oldest / 64) / 2 ^ (oldest % 64))) (least (64 - oldest % 64) size))
+  begun = look_all unseen (row (bit_b (at m (oldest / 64) / 2 ^ (oldest % 64))) (min size (64 - oldest % 64)))
 
   nothing_yet : Within size unseen
   nothing_yet = omega arith
@@ -270,23 +256,19 @@ module _ (m : List ℕ) (oldest size : ℕ) (ho : oldest < 65536) (some : 1 ≤ 
   all_left = left_going unseen size refl ∙ omega arith
 
   begun_is : looked m size unseen nothing_yet oldest ho ≡ begun
-  begun_is = ap (λ (n : ℕ). look_all unseen (row (bit_b (at m (oldest / 64) / 2 ^ (oldest % 64))) (least (64 - oldest % 64) n))) all_left
+  begun_is = ap (λ (n : ℕ). look_all unseen (row (bit_b (at m (oldest / 64) / 2 ^ (oldest % 64))) (min n (64 - oldest % 64)))) all_left
 
   pub begun_within : Within size begun
   begun_within = rw begun_is at (looked_within m size unseen nothing_yet oldest ho)
 
   pub begun_left : left_of begun size ≤ 65535
   begun_left =
-      let h : left_of begun size ≤ size - least (64 - oldest % 64) size =
+      let h : left_of begun size ≤ size - min size (64 - oldest % 64) =
       rw (begun_is, all_left) at (looked_less m size unseen nothing_yet oldest ho) in
-      go (leb (64 - oldest % 64) size) h
-    where
-      go : (t : Bool) → left_of begun size ≤ size - pick t (64 - oldest % 64) size → left_of begun size ≤ 65535
-      go true h = omega arith
-      go false h = omega arith
+      omega arith
 
   pub all_looked : (r : Run) → WentRound m (oldest / 64) size begun r
-      → look_all r (row (bit_b (at m (oldest / 64))) (least 64 (left_of r size))) ≡ look_all unseen (numbers_from m oldest size)
+      → look_all r (row (bit_b (at m (oldest / 64))) (min (left_of r size) 64)) ≡ look_all unseen (numbers_from m oldest size)
   all_looked r round =
       let w = oldest / 64 in
       let hw : w < 1024 = omega arith in
@@ -299,6 +281,15 @@ module _ (m : List ℕ) (oldest size : ℕ) (ho : oldest < 65536) (some : 1 ≤ 
       ∙ sym (word_on m size unseen nothing_yet oldest ho)
       ∙ ap (λ (n : ℕ). look_all unseen (numbers_from m oldest n)) all_left
 
+-- a way round, of so many numbers as at its beginning
+pub went_round : (m : List ℕ) (word size : ℕ) (start s : Run) (n : ℕ) → n ≡ size → Within n s → left_of s n ≤ 63
+    → searched_from m word s n ≡ searched_from m ((word + 1) % 1024) start size → WentRound m word size start s
+went_round m word size start s n e within few same = record {
+  within = omega arith;
+  few = rw e at few;
+  same = ap (searched_from m word s) (sym e) ∙ same;
+}
+
 -- no more was seen than there is
 pub through_within : (m : List ℕ) (oldest size : ℕ) → size ≤ 65536 → Within 65536 (look_all unseen (numbers_from m oldest size))
 unfolding numbers_from
@@ -308,12 +299,12 @@ through_within m oldest size h =
 
 -- ---- the end of the search
 
-pub run_nothing : (oldest before length : ℕ) → length ≡ 0 → NothingMissing ≡ run_after oldest before length
+pub run_nothing : (oldest before length : ℕ) → length ≡ 0 → None ≡ run_after oldest before length
 unfolding run_after
 run_nothing oldest before length e = rw (eq-eqb length 0 e)
 
 pub run_missing : (oldest before length : ℕ) → (length ≡ 0 → ⊥)
-    → Missing (number_at oldest before) (number_at oldest (before + length - 1)) ≡ run_after oldest before length
+    → Some (span (number_at oldest before) (number_at oldest (before + length - 1))) ≡ run_after oldest before length
 unfolding run_after
 run_missing oldest before length e = rw (ne_eqb length 0 e)
 

@@ -4,18 +4,16 @@
 use mathlib.Core.Path.{◌≡◌, refl, sym, ap, ap₂, ◌∙◌}
 use mathlib.Core.Bool.{Bool, true, false, not}
 use mathlib.Core.List.{List, [], ◌∷◌, ◌++◌}
-use Prim.Native.Nat.{ℕ, zero, suc, ◌+◌, ◌-◌, ◌/◌, ◌%◌, ◌^◌, ◌≤◌, ◌<◌, suc-le-suc}
+use Prim.Native.Nat.{ℕ, zero, suc, ◌+◌, ◌-◌, ◌/◌, ◌%◌, ◌^◌, ◌≤◌, ◌<◌, min, suc-le-suc}
 use native.Mathlib.Nat.{le_of_suc-le-suc, not-suc-le-zero, zero-add}
 use native.Mathlib.Numerals.{add-one}
 use native.Mathlib.Omega.{arith}
-use borrow.Author.Tests.{le-leb}
 use lib.Count.{count_trailing_zeros, under}
-use lib.Dec.{eqb, leb-suc-suc, leb-suc-zero, eqb-suc-zero, eqb-zero-suc, eqb-suc-suc}
+use lib.Dec.{eqb, eqb-suc-zero, eqb-zero-suc, eqb-suc-suc}
 use lib.ListN.{length, drop}
 use lib.Seq.{drop_at}
-use Rattle.octets.specs.Choice.{pick}
 use Rattle.fetch_word.specs.Bits.{bit_b, row}
-use Rattle.fetch_word.specs.Run.{run, received_first, missing_first, look_at, look_all, least}
+use Rattle.fetch_word.specs.Run.{run, received_first, missing_first, look_at, look_all}
 use Rattle.fetch_word.specs.declared.run.Run.{Run}
 use Rattle.fetch_word.proofs.BitLaws.{half_bit, zero_bit, not_bit, shifted_bit, row_alike, row_append, row_length}
 
@@ -47,36 +45,22 @@ missing_not f (suc n) = go (f 0) (missing_not (λ i. f (suc i)) n)
     go true e = ap suc e
     go false e = refl
 
-least_suc : (a b : ℕ) → least (suc a) (suc b) ≡ suc (least a b)
-least_suc a b = ap (λ (t : Bool). pick t (suc a) (suc b)) (leb-suc-suc a b) ∙ go (lib.Dec.leb a b)
-  where
-    go : (t : Bool) → pick t (suc a) (suc b) ≡ suc (pick t a b)
-    go true = refl
-    go false = refl
-
-least_zero : (b : ℕ) → least 0 b ≡ 0
-least_zero b = ap (λ (t : Bool). pick t 0 b) (le-leb 0 b (omega arith))
-
 -- the first n of k
-missing_least : (f : ℕ → Bool) (n k : ℕ) → n ≤ k → least (missing_first (row f k)) n ≡ missing_first (row f n)
+missing_least : (f : ℕ → Bool) (n k : ℕ) → n ≤ k → min (missing_first (row f k)) n ≡ missing_first (row f n)
 unfolding row missing_first
-missing_least f zero k h = go (missing_first (row f k))
-  where
-    go : (a : ℕ) → least a 0 ≡ 0
-    go zero = refl
-    go (suc a) = ap (λ (t : Bool). pick t (suc a) 0) (leb-suc-zero a)
+missing_least f zero k h = omega arith
 missing_least f (suc n) zero h = absurd (not-suc-le-zero h)
 missing_least f (suc n) (suc k) h = go (f 0) (missing_least (λ i. f (suc i)) n k (le_of_suc-le-suc h))
   where
-    go : (b : Bool) → least (missing_first (row (λ i. f (suc i)) k)) n ≡ missing_first (row (λ i. f (suc i)) n)
-        → least (missing_first (b ∷ row (λ i. f (suc i)) k)) (suc n) ≡ missing_first (b ∷ row (λ i. f (suc i)) n)
-    go true e = least_zero (suc n)
-    go false e = least_suc (missing_first (row (λ i. f (suc i)) k)) n ∙ ap suc e
+    go : (b : Bool) → min (missing_first (row (λ i. f (suc i)) k)) n ≡ missing_first (row (λ i. f (suc i)) n)
+        → min (missing_first (b ∷ row (λ i. f (suc i)) k)) (suc n) ≡ missing_first (b ∷ row (λ i. f (suc i)) n)
+    go true e = omega arith
+    go false e = omega arith
 
-pub gap_is : (x n : ℕ) → n ≤ 64 → least (count_trailing_zeros 64 x) n ≡ missing_first (row (bit_b x) n)
-gap_is x n h = ap (λ (t : ℕ). least t n) (zeros_are 64 x) ∙ missing_least (bit_b x) n 64 h
+pub gap_is : (x n : ℕ) → n ≤ 64 → min (count_trailing_zeros 64 x) n ≡ missing_first (row (bit_b x) n)
+gap_is x n h = ap (λ (t : ℕ). min t n) (zeros_are 64 x) ∙ missing_least (bit_b x) n 64 h
 
-pub ones_are : (x n : ℕ) → x < 2 ^ 64 → n ≤ 64 → least (count_trailing_zeros 64 (2 ^ 64 - 1 - x)) n ≡ received_first (row (bit_b x) n)
+pub ones_are : (x n : ℕ) → x < 2 ^ 64 → n ≤ 64 → min (count_trailing_zeros 64 (2 ^ 64 - 1 - x)) n ≡ received_first (row (bit_b x) n)
 ones_are x n s h =
     gap_is (2 ^ 64 - 1 - x) n h
     ∙ ap missing_first (row_alike (bit_b (2 ^ 64 - 1 - x)) (λ i. not (bit_b x i)) n (λ i p. not_bit x i s (omega arith)))

@@ -1,5 +1,5 @@
 -- The first run of missing numbers among numbers in a row, of which each is received or not (change request E10).
-use Rattle.std.specs.Prelude.{Bool, true, false, List, [], ◌∷◌, ℕ, suc, ◌+◌, leb, eqb}
+use Rattle.std.specs.Prelude.{Bool, true, false, List, [], ◌∷◌, ℕ, suc, ◌+◌, eqb}
 use Rattle.octets.specs.Choice.{pick}
 use Rattle.fetch_word.specs.declared.run.Run.{Run}
 
@@ -33,6 +33,3 @@ look_all s (b ∷ l) = look_all (look_at s b) l
 -- nothing was seen so far
 abbrev pub unseen : Run
 unseen = run 0 0 true
-
-abbrev pub least : ℕ → ℕ → ℕ
-least a b = pick (leb a b) a b

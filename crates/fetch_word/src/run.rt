@@ -1,10 +1,10 @@
 // The first run of missing numbers, looked for a word at a time: its bits are those of numbers in a row, set where a number is received.
 ghost use Rattle.std.specs.Prelude.{◌≡◌, true, ◌+◌, ◌≤◌, eqb};
 ghost use Rattle.fetch_word.specs.Bits.{bit_b, row};
-ghost use Rattle.fetch_word.specs.Run.{run as Run·run, missing_first, received_first, look_all, least as Run·least};
+ghost use Rattle.fetch_word.specs.Run.{run as Run·run, missing_first, received_first, look_all};
 
 // What was seen so far: how many received numbers came before the run, and how long the run is. It is ongoing until a received number
-// comes after a missing one.
+// comes after a missing one; both numbers stand either way, so that this is no optional value.
 #[derive(Clone, Copy)]
 pub struct Run {
     pub before: u32,
@@ -12,18 +12,12 @@ pub struct Run {
     pub ongoing: bool,
 }
 
-pub fn least(a: u32, b: u32) -> u32
-    ensures { result ≡ Run·least a b }
-{
-    if a <= b { a } else { b }
-}
-
 // How many of the n lowest bits are set, up to the first that isn't: "the first gap is found from trailing ones".
 fn trailing_ones(x: u64, n: u32) -> u32
     requires { n ≤ 64 }
     ensures { result ≡ received_first (row (bit_b x) n) }
 {
-    least(u64::trailing_zeros(!x), n)
+    (!x).trailing_zeros().min(n)
 }
 
 // How many of them are not set, up to the first that is.
@@ -31,7 +25,7 @@ fn trailing_gap(x: u64, n: u32) -> u32
     requires { n ≤ 64 }
     ensures { result ≡ missing_first (row (bit_b x) n) }
 {
-    least(u64::trailing_zeros(x), n)
+    x.trailing_zeros().min(n)
 }
 
 // A run that has begun goes on with the n lowest bits of x.

@@ -26,5 +26,5 @@ pub fn with_bit(x: u64, b: u32) -> u64
 pub fn ones(x: u64) -> u32
     ensures { result ≡ ones_in 64 x }
 {
-    u64::count_ones(x)
+    x.count_ones()
 }

@@ -9,7 +9,8 @@ ghost use Rattle.joining.specs.Joining.{joining, empty_joining, ranges_b, body, 
 use octets::parts::{clear, put};
 use record::kinds::MOST_BYTES;
 
-// No segment yet; a whole record stands there; inside a record.
+// No segment yet; a whole record stands there; inside a record. Numbers: any bytes that C holds are a state, and `join` answers those
+// outside their ranges too (`ranges_b`).
 pub const EMPTY: u8 = 0;
 
 pub const WHOLE: u8 = 1;
@@ -29,6 +30,7 @@ pub struct Joining {
     pub bytes: [u8; MOST_BYTES as usize],
 }
 
+// No `Result`: a refusal hands a state on too, the empty one, so that nothing is left to do for who is told of it but to go on with it.
 #[derive(Clone, Copy)]
 pub enum Answer {
     More,

@@ -1,5 +1,5 @@
 -- The sheet of a day: the title, and a line for each tag with what both antennas noted, what the tablet carried, and whether it was one beast.
-use Rattle.std.specs.Prelude.{List, [], ◌∷◌, ◌++◌, ℕ, take}
+use Rattle.std.specs.Prelude.{List, [], ◌∷◌, ◌++◌, ℕ, take, Option}
 use Rattle.day_sheet.specs.Sheet.{tag_line, title_line}
 use Rattle.day_play.specs.Play.{opened_of, played_of}
 use Rattle.day_evening.specs.Fetch.{fetched_of, sight_of, ruling_of}
@@ -13,12 +13,12 @@ unfoldable pub page_text : Page → List ℕ
 page_text p = take p.len p.bytes
 
 -- a tag's line: of each side its reader's note, its clock's Base_Time in the evening, and its table as the tablet fetched it
-abbrev pub line_of : (tag : ℕ) (left : Note) (leftBase : ℕ) (leftTable : List ℕ) (right : Note) (rightBase : ℕ) (rightTable : List ℕ) → List ℕ
+abbrev pub line_of : (tag : ℕ) (left : Option Note) (leftBase : ℕ) (leftTable : List ℕ) (right : Option Note) (rightBase : ℕ) (rightTable : List ℕ) → List ℕ
 line_of tag left leftBase leftTable right rightBase rightTable =
     tag_line tag (sight_of left leftTable) (sight_of right rightTable) (ruling_of left leftBase leftTable right rightBase rightTable)
 
 -- a line for each tag
-unfoldable pub lines_of : (tags : List ℕ) (left : List Note) (leftBase : ℕ) (leftTable : List ℕ) (right : List Note) (rightBase : ℕ) (rightTable : List ℕ) → List ℕ
+unfoldable pub lines_of : (tags : List ℕ) (left : List (Option Note)) (leftBase : ℕ) (leftTable : List ℕ) (right : List (Option Note)) (rightBase : ℕ) (rightTable : List ℕ) → List ℕ
 lines_of (tag ∷ tags) (l ∷ ls) lb lt (r ∷ rs) rb rt = line_of tag l lb lt r rb rt ++ lines_of tags ls lb lt rs rb rt
 lines_of (tag ∷ tags) (l ∷ ls) lb lt [] rb rt = []
 lines_of (tag ∷ tags) [] lb lt rs rb rt = []

@@ -9,7 +9,9 @@ ghost use Rattle.std.specs.Prelude.{◌≡◌, ◌≤◌};
 ghost use Rattle.loading_day.specs.Page.{page_text, sheet_of};
 ghost use Rattle.loading_day.specs.Story.{the_day, the_tags};
 
+use anyhow::Context;
 use page::{Page, sheet};
+use programs::ending::end;
 use std::process::ExitCode;
 use story::{day, tags};
 
@@ -25,9 +27,9 @@ fn main(rt: HostRuntime) -> ExitCode {
     let page = today();
     let bytes = page.bytes;
     let len = page.len;
-    let Err(why) = rt.stdout().write_all(&bytes[..len]) else {
-        return ExitCode::SUCCESS;
-    };
-    let _ = eprintln!(rt; "loading_day: the sheet could not be written: {why}");
-    ExitCode::FAILURE
+    let written = rt
+        .stdout()
+        .write_all(&bytes[..len])
+        .context("the sheet could not be written");
+    end(&rt, "loading_day", written)
 }

@@ -2,15 +2,16 @@
 ghost use Rattle.std.specs.Prelude.{◌≡◌, [], ◌++◌, ◌+◌, ◌≤◌};
 ghost use Rattle.text.specs.Line.{text_of};
 ghost use Rattle.day_sheet.specs.Sheet.{title_line};
+ghost use Rattle.day_evening.specs.Fetch.{fetched_of};
 ghost use Rattle.loading_day.specs.Page.{page_text, line_of, lines_of, evening_of, sheet_of};
 
-use day_evening::fetch::{fetched, ruling, sight};
+use day_evening::fetch::{Side, fetched, ruling, sight};
 use day_play::play::{Happening, Ramp, played};
-use day_play::reader::Note;
+use day_play::reader::{Note, Reader};
 use day_sheet::sheet::{tag_line, title_line};
 use text::line::{Line, put_line};
 
-// Nine lines of at most 96 bytes; its first `len` bytes count.
+// Nine lines of at most 96 bytes; its first `len` bytes count. On the heap it could fail to be made, and no sheet fails.
 #[derive(Clone, Copy)]
 pub struct Page {
     pub bytes: [u8; 864],
@@ -36,53 +37,55 @@ fn with_line(page: Page, line: Line) -> Page
     Page { bytes, len }
 }
 
-// A tag's line, from the notes of both readers, their clocks' Base_Time in the evening, and their tables as the tablet
-// fetched them.
-fn line_of(
-    tag: u16,
-    left: Note,
-    left_base: u32,
-    left_table: [u8; 528],
-    right: Note,
-    right_base: u32,
-    right_table: [u8; 528],
-) -> Line
-    ensures { text_of result ≡ line_of tag left left_base left_table right right_base right_table }
+// One reader in the evening: its notes by the tags' places, its clock's Base_Time, and its table as the tablet fetched it.
+#[derive(Clone, Copy)]
+pub struct Collected {
+    pub notes: [Option<Note>; 8],
+    pub base: u32,
+    pub table: [u8; 528],
+}
+
+// A tag's line, from both sides of the ramp.
+fn line_of(tag: u16, left: Side, right: Side) -> Line
+    ensures { text_of result ≡ line_of tag left.note left.base left.table right.note right.base right.table }
 {
-    let first = sight(left, left_table);
-    let second = sight(right, right_table);
-    let said = ruling(left, left_base, left_table, right, right_base, right_table);
+    let first = sight(left.note, left.table);
+    let second = sight(right.note, right.table);
+    let said = ruling(left, right);
     tag_line(tag, first, second, said)
 }
 
 // The title and the lines.
-fn page_of(
-    tags: [u16; 8],
-    left: [Note; 8],
-    left_base: u32,
-    left_table: [u8; 528],
-    right: [Note; 8],
-    right_base: u32,
-    right_table: [u8; 528],
-) -> Page
-    ensures { (page_text result ≡ title_line ++ lines_of tags left left_base left_table right right_base right_table) × (result.len ≤ 864) }
+fn page_of(tags: [u16; 8], left: Collected, right: Collected) -> Page
+    ensures { (page_text result ≡ title_line ++ lines_of tags left.notes left.base left.table right.notes right.base right.table) × (result.len ≤ 864) }
 {
     let mut page = with_line(blank(), title_line());
-    let mut k = 0;
-    while k < 8 {
-        let line = line_of(
-            tags[k],
-            left[k],
-            left_base,
-            left_table,
-            right[k],
-            right_base,
-            right_table,
-        );
-        page = with_line(page, line);
-        k += 1;
+    for k in 0..8 {
+        let left_side = Side {
+            note: left.notes[k],
+            base: left.base,
+            table: left.table,
+        };
+        let right_side = Side {
+            note: right.notes[k],
+            base: right.base,
+            table: right.table,
+        };
+        page = with_line(page, line_of(tags[k], left_side, right_side));
     }
     page
+}
+
+// A reader in the evening, when the tablet fetches its log.
+fn collect(reader: Reader) -> Collected
+    ensures notes { result.notes ≡ reader.notes }
+    ensures base { result.base ≡ reader.clock.time.base }
+    ensures table { result.table ≡ fetched_of reader }
+{
+    let notes = reader.notes;
+    let base = reader.clock.time.base;
+    let table = fetched(reader);
+    Collected { notes, base, table }
 }
 
 // The sheet of a ramp in the evening, when the tablet fetches both logs: both clocks are read at one instant.
@@ -91,19 +94,7 @@ fn evening(ramp: Ramp, tags: [u16; 8]) -> Page
 {
     let left = ramp.left;
     let right = ramp.right;
-    let left_notes = left.notes;
-    let right_notes = right.notes;
-    let left_clock = left.clock;
-    let right_clock = right.clock;
-    page_of(
-        tags,
-        left_notes,
-        left_clock.time.base,
-        fetched(left),
-        right_notes,
-        right_clock.time.base,
-        fetched(right),
-    )
+    page_of(tags, collect(left), collect(right))
 }
 
 // The sheet of a day.

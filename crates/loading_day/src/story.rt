@@ -123,14 +123,7 @@ fn numbers() -> [u64; 78]
 pub fn day() -> [Happening; 78]
     ensures { result ≡ the_day }
 {
-    let numbers = numbers();
-    let mut day = [happening(numbers[0]); 78];
-    let mut k = 0;
-    while k < 78 {
-        day[k] = happening(numbers[k]);
-        k += 1;
-    }
-    day
+    numbers().map(happening)
 }
 
 pub fn tags() -> [u16; 8]

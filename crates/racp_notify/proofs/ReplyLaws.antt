@@ -11,11 +11,7 @@ use Rattle.octets.specs.Choice.{pick}
 use Rattle.table_look.specs.Matching.{matching}
 use Rattle.clock.specs.Obeys.{clock_b}
 use Rattle.clock.specs.declared.state.Clock.{Clock}
-use Rattle.clock.specs.declared.state.Left.{Left}
-use Rattle.clock.specs.declared.state.Left.TheVariants.{Nothing, From}
 use Rattle.clock.specs.declared.state.Report.{Report}
-use Rattle.clock.specs.declared.state.Running.{Running}
-use Rattle.clock.specs.declared.state.Running.TheVariants.{Idle, Reporting}
 use Rattle.rows.specs.Reply.{done_b}
 use Rattle.rows.proofs.ReplyLaws.{broken_of, Replies, broken_refused, rows_broken}
 use Rattle.rows.proofs.RowLaws.{table_all}
@@ -24,6 +20,7 @@ use Rattle.codes.specs.Response.{code_bytes, count_bytes}
 use Rattle.codes.specs.declared.response.Code.TheVariants.{Success}
 use Rattle.racp_notify.specs.Notify.{room_b, notify_rows, segment_of, closing_of, said_of, noticed, notify_of}
 use Rattle.racp_notify.proofs.NotifyLaws.{tables, notify_idle, notify_refused, notify_said, ready}
+use Rattle.std.proofs.Common.{None, Option, Some}
 
 closing_short : (t : List ℕ) (r : Report) → length (closing_of t r) ≤ 255
 unfolding closing_of code_bytes count_bytes
@@ -34,20 +31,21 @@ closing_short t r = go (eqb r.opcode combined_opcode)
     go true = omega arith
     go false = omega arith
 
-said_short : (c : Clock) (t : List ℕ) (q : ℕ) (r : Report) (l : Left) → q ≤ 243 → length (said_of c t q r l).bytes ≤ 255
+said_short : (c : Clock) (t : List ℕ) (q : ℕ) (r : Report) (l : Option (ℕ × ℕ)) → q ≤ 243 → length (said_of c t q r l).bytes ≤ 255
 unfolding said_of segment_of
-said_short c t q r Nothing h = closing_short t r
-said_short c t q r (From number sent) h = rw length-take (omega arith)
+said_short c t q r None h = closing_short t r
+said_short c t q r (Some (number, sent)) h = rw length-take (omega arith)
 
 module _ (c : Clock) (t : List ℕ) (p : ℕ) (o : List ℕ) where
   notify_short : (notify_of c t p o).reply.len ≤ 255
   unfolding noticed
   notify_short = go c.running refl (done_b (tables c t p o)) refl
     where
-      go : (r : Running) → c.running ≡ r → (b : Bool) → done_b (tables c t p o) ≡ b → (notify_of c t p o).reply.len ≤ 255
-      go Idle e b d = rw (notify_idle c t p o e) (omega arith)
-      go (Reporting r) e false d = rw (notify_refused c t p o r e d) (omega arith)
-      go (Reporting r) e true d =
+      go : (r : Option Report) → c.running ≡ r → (b : Bool) → done_b (tables c t p o) ≡ b → (notify_of c t p o).reply.len ≤ 255
+      go None e false d = rw (notify_refused c t p o d) (omega arith)
+      go None e true d = rw (notify_idle c t p o d e) (omega arith)
+      go (Some r) e false d = rw (notify_refused c t p o d) (omega arith)
+      go (Some r) e true d =
           let k = ready c t p (length o) r e (table_all c t (room_b p (length o)) d) in
           let q : p - 1 ≤ 243 = omega arith in
           rw (notify_said c t p o r e d) (said_short c t (p - 1) r r.left q)

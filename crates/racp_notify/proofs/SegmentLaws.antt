@@ -15,14 +15,13 @@ use Rattle.octets.specs.Parts.{over}
 use Rattle.filter.specs.declared.filter.Filter.{Filter}
 use Rattle.table.specs.Table.{age_of}
 use Rattle.table_look.specs.Matching.{matching}
-use Rattle.clock.specs.declared.state.Left.{Left}
-use Rattle.clock.specs.declared.state.Left.TheVariants.{From}
 use Rattle.clock.specs.declared.state.Report.{Report}
 use Rattle.codes.specs.Racp.{report_opcode, combined_opcode, combined_response}
 use Rattle.codes.specs.Response.{code_bytes, count_bytes}
 use Rattle.codes.specs.declared.response.Code.TheVariants.{Success}
 use Rattle.racp_access.specs.Report.{left_from}
 use Rattle.racp_notify.specs.Notify.{left_after, closing_of}
+use Rattle.std.proofs.Common.{Option, Some}
 
 -- bytes laid down after a first one
 pub over_cons : (o : List ℕ) (h : ℕ) (b : List ℕ) → over (over o 0 (h ∷ [])) 1 b ≡ over o 0 (h ∷ b)
@@ -97,11 +96,11 @@ closing_length_lem t r = go (eqb r.opcode combined_opcode)
     go false = refl
 
 -- what is left after a segment: the next match where all bytes are sent, else the other bytes
-module _ (f : Filter) (t : List ℕ) (q n sent : ℕ) (b : List ℕ) (k : ℕ) (l : Left) where
+module _ (f : Filter) (t : List ℕ) (q n sent : ℕ) (b : List ℕ) (k : ℕ) (l : Option (ℕ × ℕ)) where
   pub after_last : l ≡ left_from f t k → k ≡ age_of t n + 1 → length b ≤ sent + q → l ≡ left_after f t q n sent b
   unfolding left_after
   after_last e h last = rw (le-leb (length b) (sent + q) last) (e ∙ ap (left_from f t) h)
 
-  pub after_more : l ≡ From n k → k ≡ sent + q → sent + q < length b → l ≡ left_after f t q n sent b
+  pub after_more : l ≡ Some (n, k) → k ≡ sent + q → sent + q < length b → l ≡ left_after f t q n sent b
   unfolding left_after
-  after_more e h more = rw (lt-leb (length b) (sent + q) more) (e ∙ ap (From n) h)
+  after_more e h more = rw (lt-leb (length b) (sent + q) more) (e ∙ ap (λ (k : ℕ). Some (n, k)) h)

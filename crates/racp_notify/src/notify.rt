@@ -1,3 +1,4 @@
+ghost use Rattle.std.specs.Prelude.{None, Some};
 // A notification of the running report (document 01, "RACP and notifications"): rows 1, 2, 3 and 8, then a segment of
 // its next record, or the closing response.
 ghost use Rattle.std.specs.Prelude.{◌≡◌, true, ◌≤◌, ◌<◌, leb, length};
@@ -6,14 +7,12 @@ ghost use Rattle.octets.specs.Parts.{over};
 ghost use Rattle.record_write.specs.Layout.{bytes_of};
 ghost use Rattle.table.specs.Table.{sound_b};
 ghost use Rattle.clock.specs.State.{with_running};
-ghost use Rattle.clock.specs.declared.state.Running.TheVariants.{Idle};
-ghost use Rattle.clock.specs.declared.state.Left.TheVariants.{From};
 ghost use Rattle.rows.specs.Rows.{left_b};
-ghost use Rattle.racp_notify.specs.Notify.{room_b, header_of, counter_after, segment_of, left_after, closing_of, said, said_of, notice, noticed, notify_of};
+ghost use Rattle.racp_notify.specs.Notify.{room_b, header_of, counter_after, segment_of, left_after, closing_of, said, said_of, notified_by, notice, noticed, notify_of};
 ghost use Rattle.racp_notify.specs.Notify.{bit as Notify·bit};
 
-use clock::answers::Answer;
-use clock::state::{Clock, Left, Report, Running, with_running};
+use clock::answers::Refusal;
+use clock::state::{Clock, Report, with_running};
 use codes::racp::{COMBINED_OPCODE, COMBINED_RESPONSE, REPORT_OPCODE};
 use codes::response::{Code, code_bytes, count_bytes};
 use filter::filter::Filter;
@@ -22,19 +21,15 @@ use octets::parts::put;
 use racp_access::report::left_from;
 use record::kinds::Record;
 use record_write::layout::{length_of, write};
-use rows::reply::done;
-use rows::rows::{and_then, table_rows};
+use rows::rows::table_rows;
 use table_look::look::{age_of, record_at};
 use table_look::matching::count_matching;
 
+// What a notification is: a segment of the report's next record, or its closing response. So many bytes of the output are it.
 #[derive(Clone, Copy)]
-pub struct Notified {
-    pub answer: Answer,
-    // these bytes are the closing response; else they are a segment
-    pub closes: bool,
-    pub clock: Clock,
-    // so many bytes of the output are the segment or the closing response
-    pub len: usize,
+pub enum Notification {
+    Segment(usize),
+    Closing(usize),
 }
 
 // "Payload size P outside 20 to 244."
@@ -78,7 +73,7 @@ fn counter_after(k: u8) -> u8
 fn body_end(len: usize, reach: usize) -> usize
     ensures { result ≡ pick (leb len reach) len reach }
 {
-    if len <= reach { len } else { reach }
+    len.min(reach)
 }
 
 // "Each is cut into bodies of P-1 bytes, the last of 1 to P-1": the header and the next `q` bytes, or as many
@@ -100,7 +95,7 @@ fn put_segment(out: &mut [u8], q: usize, sent: u8, counter: u8, r: Record) -> us
 }
 
 // What is left after it: the record's other bytes, or the next held record that matches.
-fn left_after(t: &[u8], f: Filter, q: usize, number: u16, sent: u8, r: Record) -> Left
+fn left_after(t: &[u8], f: Filter, q: usize, number: u16, sent: u8, r: Record) -> Option<(u16, u8)>
     requires { (sound_b t.now ≡ true) × (q ≤ 243) }
     ensures { result ≡ left_after f t.now q number sent (bytes_of r) }
 {
@@ -108,7 +103,7 @@ fn left_after(t: &[u8], f: Filter, q: usize, number: u16, sent: u8, r: Record) -
     if length_of(r) <= reach {
         return left_from(t, f, age_of(t, number) + 1);
     }
-    Left::From(number, reach as u8)
+    Some((number, reach as u8))
 }
 
 // The closing response: of a Combined Report the count of matching held records, else Success.
@@ -124,24 +119,28 @@ fn closing(t: &[u8], r: Report) -> [u8; 4]
 }
 
 // Nothing is left: the report ends.
-fn close(c: Clock, t: &[u8], r: Report, out: &mut [u8]) -> Notified
+fn close(c: &mut Clock, t: &[u8], r: Report, out: &mut [u8]) -> Notification
     requires { (sound_b t.now ≡ true) × (4 ≤ length out.old) }
-    ensures { notice result out.new ≡ noticed (said true (with_running c Idle) (closing_of t.now r)) out.old }
+    ensures { notice (notified_by (Ok result) c.new) out.new ≡ noticed (said true (with_running c.old None) (closing_of t.now r)) out.old }
 {
     let response = closing(t, r);
     put(out, 0, &response);
-    Notified {
-        answer: Answer::Done,
-        closes: true,
-        clock: with_running(c, Running::Idle),
-        len: 4,
-    }
+    c.running = None;
+    Notification::Closing(4)
 }
 
 // A segment of the next record, and what is left after it.
-fn send(c: Clock, t: &[u8], q: usize, r: Report, number: u16, sent: u8, out: &mut [u8]) -> Notified
-    requires { (sound_b t.now ≡ true) × (q < length out.old) × (q ≤ 243) × (r.counter ≤ 63) × (left_b t.now r.filter (From number sent) ≡ true) }
-    ensures { notice result out.new ≡ noticed (said_of c t.now q r (From number sent)) out.old }
+fn send(
+    c: &mut Clock,
+    t: &[u8],
+    q: usize,
+    r: Report,
+    number: u16,
+    sent: u8,
+    out: &mut [u8],
+) -> Notification
+    requires { (sound_b t.now ≡ true) × (q < length out.old) × (q ≤ 243) × (r.counter ≤ 63) × (left_b t.now r.filter (Some (number, sent)) ≡ true) }
+    ensures { notice (notified_by (Ok result) c.new) out.new ≡ noticed (said_of c.old t.now q r (Some (number, sent))) out.old }
 {
     let next = record_at(t, age_of(t, number));
     let filter = r.filter;
@@ -153,48 +152,29 @@ fn send(c: Clock, t: &[u8], q: usize, r: Report, number: u16, sent: u8, out: &mu
         left,
     };
     let len = put_segment(out, q, sent, r.counter, next);
-    Notified {
-        answer: Answer::Done,
-        closes: false,
-        clock: with_running(c, Running::Reporting(after)),
-        len,
-    }
+    c.running = Some(after);
+    Notification::Segment(len)
 }
 
 // What is said of a running report, with bodies of up to `q` bytes.
-fn say(c: Clock, t: &[u8], q: usize, r: Report, out: &mut [u8]) -> Notified
+fn say(c: &mut Clock, t: &[u8], q: usize, r: Report, out: &mut [u8]) -> Notification
     requires { (sound_b t.now ≡ true) × (q < length out.old) × (19 ≤ q) × (q ≤ 243) × (r.counter ≤ 63) × (left_b t.now r.filter r.left ≡ true) }
-    ensures { notice result out.new ≡ noticed (said_of c t.now q r r.left) out.old }
+    ensures { notice (notified_by (Ok result) c.new) out.new ≡ noticed (said_of c.old t.now q r r.left) out.old }
 {
-    let left = r.left;
-    match left {
-        Left::Nothing => close(c, t, r, out),
-        Left::From(number, sent) => send(c, t, q, r, number, sent, out),
-    }
+    let Some((number, sent)) = r.left else {
+        return close(c, t, r, out);
+    };
+    send(c, t, q, r, number, sent, out)
 }
 
 // Refuses: 1, 2 whole, 3, 8. The switches do not hold a notification back. Done, the bytes are a segment of
-// the report's next record or its closing response, of which `closes` tells.
-pub fn notify(c: Clock, t: &[u8], p: u32, out: &mut [u8]) -> Notified
-    ensures { notice result out.new ≡ notify_of c t.now p out.old }
+// the report's next record or its closing response.
+pub fn notify(c: &mut Clock, t: &[u8], p: u32, out: &mut [u8]) -> Result<Notification, Refusal>
+    ensures { notice (notified_by result c.new) out.new ≡ notify_of c.old t.now p out.old }
 {
-    let first = table_rows(c, t, room(p, out.len()));
-    let running = c.running;
-    let Running::Reporting(report) = running else {
-        return Notified {
-            answer: and_then(first, Answer::NothingRunning),
-            closes: false,
-            clock: c,
-            len: 0,
-        };
+    table_rows(*c, t, room(p, out.len()))?;
+    let Some(report) = c.running else {
+        return Err(Refusal::NothingRunning);
     };
-    if !done(first) {
-        return Notified {
-            answer: first,
-            closes: false,
-            clock: c,
-            len: 0,
-        };
-    }
-    say(c, t, p as usize - 1, report, out)
+    Ok(say(c, t, p as usize - 1, report, out))
 }

@@ -1,13 +1,19 @@
 -- One beast or two (change request E5), in the request's order: "both antennas' tables, their clocks' Base_Time at one instant, two stamps of one
 -- tag with their next numbers, and a window of 0 to 60 seconds". The way of carrying is left open, so that nothing here looks into a table.
-use Rattle.std.specs.Prelude.{Bool, List, ℕ, leb, ℤ, pos, nat_abs, ◌-ℤ◌}
+use Rattle.std.specs.Prelude.{Bool, List, ℕ, leb, ℤ, pos, nat_abs, ◌-ℤ◌, Result, Ok, Err}
 use Rattle.octets.specs.Choice.{pick}
 use Rattle.carry.specs.Stamp.{carry_of, carrying_number}
-use Rattle.carry.specs.declared.stamp.Carried.{Carried}
-use Rattle.carry.specs.declared.stamp.Carried.TheVariants.{To, TableNotSound, NotHeld, FaultAmong}
 use Rattle.ramp.specs.declared.beast.Seen.{Seen}
-use Rattle.ramp.specs.declared.beast.Verdict.{Verdict}
-use Rattle.ramp.specs.declared.beast.Verdict.TheVariants.{One, Two, WindowTooWide, LeftRefused, RightRefused}
+use Rattle.ramp.specs.declared.beast.Beasts.{Beasts}
+use Rattle.ramp.specs.declared.beast.Beasts.TheVariants.{One, Two}
+use Rattle.ramp.specs.declared.beast.RampError.{RampError}
+use Rattle.ramp.specs.declared.beast.RampError.TheVariants.{WindowTooWide, LeftRefused, RightRefused}
+use Rattle.carry.specs.declared.stamp.CarryError.{CarryError}
+use Rattle.carry.specs.declared.stamp.CarryError.TheVariants.{FaultAmong, NotHeld, TableNotSound}
+
+-- "says "one" .. else "two", or names the side and number of the refusal"
+abbrev pub Verdict : Type 0
+Verdict = Result Beasts RampError
 
 -- "a window of 0 to 60 seconds"
 abbrev pub widest_window : ℕ
@@ -22,45 +28,45 @@ unfoldable pub within_b : ℕ → ℤ → ℤ → Bool
 within_b window left right = leb (nat_abs (left -ℤ right)) window
 
 -- "says "one" exactly when .. else "two""
-unfoldable pub judge_of : ℕ → ℤ → ℤ → Verdict
+unfoldable pub judge_of : ℕ → ℤ → ℤ → Beasts
 judge_of window left right = pick (within_b window left right) One Two
 
 -- what follows from a carried stamp, "or names the side and number of the refusal"
-unfoldable pub carried_or : (ℤ → Verdict) → (ℕ → Verdict) → Carried → Verdict
-carried_or then refused (To z) = then z
-carried_or then refused TableNotSound = refused (carrying_number TableNotSound)
-carried_or then refused NotHeld = refused (carrying_number NotHeld)
-carried_or then refused FaultAmong = refused (carrying_number FaultAmong)
+unfoldable pub carried_or : (ℤ → Verdict) → (ℕ → Verdict) → Result ℤ CarryError → Verdict
+carried_or then refused (Ok z) = then z
+carried_or then refused (Err TableNotSound) = refused (carrying_number (Err TableNotSound))
+carried_or then refused (Err NotHeld) = refused (carrying_number (Err NotHeld))
+carried_or then refused (Err FaultAmong) = refused (carrying_number (Err FaultAmong))
 
 -- "left side first": all of the left carrying, then all of the right one
-unfoldable pub verdict_of : ℕ → ℕ → Carried → ℕ → Carried → Verdict
+unfoldable pub verdict_of : ℕ → ℕ → Result ℤ CarryError → ℕ → Result ℤ CarryError → Verdict
 verdict_of window leftBase left rightBase right =
-    carried_or (λ l. carried_or (λ r. judge_of window (age_of leftBase l) (age_of rightBase r)) RightRefused right) LeftRefused left
+    carried_or
+    (λ l. carried_or (λ r. Ok (judge_of window (age_of leftBase l) (age_of rightBase r))) (λ n. Err (RightRefused n)) right)
+    (λ n. Err (LeftRefused n)) left
 
 -- "18 window too wide, tested first"; a stamp is carried from the stamp, its next number and a table
-unfoldable pub beast_by : (ℕ → ℕ → List ℕ → Carried) → Seen → List ℕ → Seen → List ℕ → ℕ → Verdict
+unfoldable pub beast_by : (ℕ → ℕ → List ℕ → Result ℤ CarryError) → Seen → List ℕ → Seen → List ℕ → ℕ → Verdict
 beast_by carry left leftTable right rightTable window =
     pick (leb window widest_window)
     (verdict_of window
     left.base (carry left.stamp left.next leftTable)
     right.base (carry right.stamp right.next rightTable))
-    WindowTooWide
+    (Err WindowTooWide)
 
 unfoldable pub one_beast_of : Seen → List ℕ → Seen → List ℕ → ℕ → Verdict
 one_beast_of = beast_by carry_of
 
 -- "0 means done"; 18 has no side
 unfoldable pub verdict_number : Verdict → ℕ
-verdict_number One = 0
-verdict_number Two = 0
-verdict_number WindowTooWide = 18
-verdict_number (LeftRefused n) = n
-verdict_number (RightRefused n) = n
+verdict_number (Ok beasts) = 0
+verdict_number (Err WindowTooWide) = 18
+verdict_number (Err (LeftRefused n)) = n
+verdict_number (Err (RightRefused n)) = n
 
 -- 1 is the left side, 2 the right one
 unfoldable pub verdict_side : Verdict → ℕ
-verdict_side One = 0
-verdict_side Two = 0
-verdict_side WindowTooWide = 0
-verdict_side (LeftRefused n) = 1
-verdict_side (RightRefused n) = 2
+verdict_side (Ok beasts) = 0
+verdict_side (Err WindowTooWide) = 0
+verdict_side (Err (LeftRefused n)) = 1
+verdict_side (Err (RightRefused n)) = 2

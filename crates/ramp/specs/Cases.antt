@@ -1,14 +1,14 @@
 -- Cases of one beast or two, worked out by hand from the request and run by the checker on the definitions that the promises cite. The tables are
 -- those of carrying's cases: T0 is new; T3 holds a clock set to 800,000,000, and 100 seconds later set back by 30.
-use Rattle.std.specs.Prelude.{◌≡◌, List, [], ◌∷◌, map, ℕ, ◌+◌, take}
+use Rattle.std.specs.Prelude.{◌≡◌, List, [], ◌∷◌, map, ℕ, ◌+◌, take, Ok, Err, Result, ℤ}
 use Rattle.carry.specs.Cases.{t0, t3, tf, rolled, logged, first, back, fault, got as carried}
 use Rattle.carry.specs.Stamp.{carrying_number}
-use Rattle.carry.specs.declared.stamp.Carried.{Carried}
-use Rattle.carry.specs.declared.stamp.Carried.TheVariants.{NotHeld}
-use Rattle.ramp.specs.Beast.{age_of, within_b, judge_of, carried_or, verdict_of, beast_by}
+use Rattle.ramp.specs.Beast.{Verdict, age_of, within_b, judge_of, carried_or, verdict_of, beast_by}
 use Rattle.ramp.specs.declared.beast.Seen.{Seen}
-use Rattle.ramp.specs.declared.beast.Verdict.{Verdict}
-use Rattle.ramp.specs.declared.beast.Verdict.TheVariants.{One, Two, WindowTooWide, LeftRefused, RightRefused}
+use Rattle.ramp.specs.declared.beast.Beasts.TheVariants.{One, Two}
+use Rattle.ramp.specs.declared.beast.RampError.TheVariants.{WindowTooWide, LeftRefused, RightRefused}
+use Rattle.carry.specs.declared.stamp.CarryError.{CarryError}
+use Rattle.carry.specs.declared.stamp.CarryError.TheVariants.{NotHeld}
 
 -- a side: base, stamp, next number, table
 pub record Side : Type 0 where
@@ -48,38 +48,38 @@ faulted = side 800000110 800000050 2 (logged (first ∷ back ∷ fault ∷ []))
 unfoldable pub table : List Case
 table =
     -- ages 90 and 93
-    case ninety (old 93) 3 One
-    ∷ case ninety (old 93) 2 Two
-    ∷ case (old 93) ninety 3 One
-    ∷ case (old 93) ninety 2 Two
+    case ninety (old 93) 3 (Ok One)
+    ∷ case ninety (old 93) 2 (Ok Two)
+    ∷ case (old 93) ninety 3 (Ok One)
+    ∷ case (old 93) ninety 2 (Ok Two)
     -- no second, and the widest window
-    ∷ case (old 90) ninety 0 One
-    ∷ case (old 91) ninety 0 Two
-    ∷ case (old 0) (old 60) 60 One
-    ∷ case (old 61) (old 0) 60 Two
+    ∷ case (old 90) ninety 0 (Ok One)
+    ∷ case (old 91) ninety 0 (Ok Two)
+    ∷ case (old 0) (old 60) 60 (Ok One)
+    ∷ case (old 61) (old 0) 60 (Ok Two)
     -- 18 before anything
-    ∷ case unsound unsound 61 WindowTooWide
-    ∷ case ninety (old 93) 4294967295 WindowTooWide
+    ∷ case unsound unsound 61 (Err WindowTooWide)
+    ∷ case ninety (old 93) 4294967295 (Err WindowTooWide)
     -- all of the left carrying before the right one
-    ∷ case unsound overwritten 60 (LeftRefused 1)
-    ∷ case overwritten unsound 0 (LeftRefused 12)
-    ∷ case faulted unsound 5 (LeftRefused 13)
-    ∷ case ninety unsound 5 (RightRefused 1)
-    ∷ case ninety overwritten 5 (RightRefused 12)
-    ∷ case ninety faulted 5 (RightRefused 13)
+    ∷ case unsound overwritten 60 (Err (LeftRefused 1))
+    ∷ case overwritten unsound 0 (Err (LeftRefused 12))
+    ∷ case faulted unsound 5 (Err (LeftRefused 13))
+    ∷ case ninety unsound 5 (Err (RightRefused 1))
+    ∷ case ninety overwritten 5 (Err (RightRefused 12))
+    ∷ case ninety faulted 5 (Err (RightRefused 13))
     -- any Base_Time of 32 bits; an age of -5; a stamp that is carried to -20, and so 20 seconds old at 0
-    ∷ case (side 0 5 0 t0) (side 0 0 0 t0) 5 One
-    ∷ case (side 0 5 0 t0) (side 0 0 0 t0) 4 Two
-    ∷ case (side 4294967295 4294967235 0 t0) (old 0) 60 One
-    ∷ case (side 0 10 1 t3) (side 30 10 0 t0) 0 One
+    ∷ case (side 0 5 0 t0) (side 0 0 0 t0) 5 (Ok One)
+    ∷ case (side 0 5 0 t0) (side 0 0 0 t0) 4 (Ok Two)
+    ∷ case (side 4294967295 4294967235 0 t0) (old 0) 60 (Ok One)
+    ∷ case (side 0 10 1 t3) (side 30 10 0 t0) 0 (Ok One)
     -- the numbers went round
-    ∷ case (side 20 0 65534 rolled) (old 7) 0 One
+    ∷ case (side 20 0 65534 rolled) (old 7) 0 (Ok One)
     ∷ []
 
 -- `carry_of`, laid open by carrying's own cases
-unfoldable pub carrying : ℕ → ℕ → List ℕ → Carried
+unfoldable pub carrying : ℕ → ℕ → List ℕ → Result ℤ CarryError
 unfolding carried
-carrying s q t = carried (record { stamp = s; q = q; table = t; carried = NotHeld })
+carrying s q t = carried (record { stamp = s; q = q; table = t; carried = Err NotHeld })
 
 unfoldable pub got : Case → Verdict
 unfolding carrying beast_by verdict_of carried_or judge_of within_b age_of carrying_number

@@ -1,8 +1,7 @@
 -- What is promised of one beast or two beyond the call's own equation (change request E5): which answer comes when.
-use Rattle.std.specs.Prelude.{◌≡◌, List, ℕ, ◌≤◌, leb, eqb, ℤ}
+use Rattle.std.specs.Prelude.{◌≡◌, List, ℕ, ◌≤◌, leb, eqb, ℤ, Ok}
 use Rattle.octets.specs.Choice.{pick}
 use Rattle.carry.specs.Stamp.{carry_of, carrying_number}
-use Rattle.carry.specs.declared.stamp.Carried.TheVariants.{To}
 use Rattle.ramp.specs.Beast.{widest_window, age_of, judge_of, one_beast_of, verdict_number, verdict_side}
 use Rattle.ramp.specs.declared.beast.Seen.{Seen}
 
@@ -30,9 +29,9 @@ module _ (left : Seen) (leftTable : List ℕ) (right : Seen) (rightTable : List 
         ≡ pick (leb window widest_window) (first_side left_number right_number) 0
     -- where both stamps are carried, it is judged by the two ages
     pub judged : (l r : ℤ) → window ≤ widest_window
-        → carry_of left.stamp left.next leftTable ≡ To l
-        → carry_of right.stamp right.next rightTable ≡ To r
-        → one_beast_of left leftTable right rightTable window ≡ judge_of window (age_of left.base l) (age_of right.base r)
+        → carry_of left.stamp left.next leftTable ≡ Ok l
+        → carry_of right.stamp right.next rightTable ≡ Ok r
+        → one_beast_of left leftTable right rightTable window ≡ Ok (judge_of window (age_of left.base l) (age_of right.base r))
 
 abbrev pub AnswersWhen : Type 0
 AnswersWhen = (left : Seen) (leftTable : List ℕ) (right : Seen) (rightTable : List ℕ) (window : ℕ)

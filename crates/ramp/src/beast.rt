@@ -1,20 +1,21 @@
 // One beast or two (change request E5): both antennas' stamps of one tag are carried, each is taken from its own clock, and the
 // two ages compared.
-ghost use Rattle.std.specs.Prelude.{◌≡◌, ◌≤◌, nat_abs, ◌-ℤ◌};
-ghost use Rattle.ramp.specs.Bounds.{Sized, carried_bound, age_bound};
+ghost use Rattle.std.specs.Prelude.{◌≡◌, ◌≤◌, nat_abs};
+ghost use Rattle.ramp.specs.Bounds.{Sized, carried_bound};
 ghost use Rattle.ramp.specs.Beast.{age_of, judge_of, verdict_of, one_beast_of, verdict_number, verdict_side};
 
-use carry::stamp::{Carried, carry, carrying_number};
+use carry::stamp::{CarryError, carry, carrying_number};
 
 // "a window of 0 to 60 seconds"
 pub const WIDEST_WINDOW: u32 = 60;
 
-// The two sides, as numbers; 0 is neither.
+// The two sides, by the numbers that C reads; 0 is neither.
 pub const LEFT: u8 = 1;
 
 pub const RIGHT: u8 = 2;
 
-// What one antenna has of a tag: its clock's Base_Time now, the stamp that it noted, and its log's next number then.
+// What one antenna has of a tag: its clock's Base_Time now, the stamp that it noted, and its log's next number then. Its table
+// stands beside it: the theorem One beast speaks of judging over a `Seen` and a table.
 #[derive(Clone, Copy)]
 pub struct Seen {
     pub base: u32,
@@ -22,11 +23,15 @@ pub struct Seen {
     pub next: u16,
 }
 
-// The number of a side's refusal is that of carrying.
 #[derive(Clone, Copy)]
-pub enum Verdict {
+pub enum Beasts {
     One,
     Two,
+}
+
+// Why it is not told. A side's refusal is carrying's, by its number, as the theorem One beast says it.
+#[derive(Clone, Copy)]
+pub enum RampError {
     WindowTooWide,
     LeftRefused(u8),
     RightRefused(u8),
@@ -40,40 +45,36 @@ fn age(base: u32, carried: i64) -> i64
     base as i64 - carried
 }
 
-// The seconds between two ages, either way round.
-fn apart(a: i64, b: i64) -> u64
-    requires { (nat_abs a ≤ age_bound) × (nat_abs b ≤ age_bound) }
-    ensures { result ≡ nat_abs (a -ℤ b) }
-{
-    if a < b {
-        return (b - a) as u64;
-    }
-    (a - b) as u64
-}
-
 // "one" exactly when the two ages differ by at most the window, else "two".
-fn judge(window: u32, left: i64, right: i64) -> Verdict
-    requires { (nat_abs left ≤ age_bound) × (nat_abs right ≤ age_bound) }
+fn judge(window: u32, left: i64, right: i64) -> Beasts
     ensures { result ≡ judge_of window left right }
 {
-    if apart(left, right) <= window as u64 {
-        return Verdict::One;
+    let apart = left.abs_diff(right);
+    if apart <= window as u64 {
+        Beasts::One
+    } else {
+        Beasts::Two
     }
-    Verdict::Two
 }
 
 // What came of carrying on both sides: the left one's refusal first.
-fn judged(window: u32, left_base: u32, left: Carried, right_base: u32, right: Carried) -> Verdict
+fn judged(
+    window: u32,
+    left_base: u32,
+    left: Result<i64, CarryError>,
+    right_base: u32,
+    right: Result<i64, CarryError>,
+) -> Result<Beasts, RampError>
     requires { Sized left × Sized right }
     ensures { result ≡ verdict_of window left_base left right_base right }
 {
-    let Carried::To(l) = left else {
-        return Verdict::LeftRefused(carrying_number(left));
+    let Ok(l) = left else {
+        return Err(RampError::LeftRefused(carrying_number(left)));
     };
-    let Carried::To(r) = right else {
-        return Verdict::RightRefused(carrying_number(right));
+    let Ok(r) = right else {
+        return Err(RampError::RightRefused(carrying_number(right)));
     };
-    judge(window, age(left_base, l), age(right_base, r))
+    Ok(judge(window, age(left_base, l), age(right_base, r)))
 }
 
 // One beast or two (change request E5). Refuses: 18; then all of the left carrying, 1, 12, 13; then all of the right one.
@@ -83,11 +84,11 @@ pub fn one_beast(
     right: Seen,
     right_table: &[u8],
     window: u32,
-) -> Verdict
+) -> Result<Beasts, RampError>
     ensures { result ≡ one_beast_of left left_table.now right right_table.now window }
 {
     if WIDEST_WINDOW < window {
-        return Verdict::WindowTooWide;
+        return Err(RampError::WindowTooWide);
     }
     let first = carry(left.stamp, left.next, left_table);
     let second = carry(right.stamp, right.next, right_table);
@@ -95,27 +96,25 @@ pub fn one_beast(
 }
 
 // The paper's number of a verdict.
-pub fn verdict_number(v: Verdict) -> u8
+pub fn verdict_number(v: Result<Beasts, RampError>) -> u8
     ensures { result ≡ verdict_number v }
 {
     match v {
-        Verdict::One => 0,
-        Verdict::Two => 0,
-        Verdict::WindowTooWide => 18,
-        Verdict::LeftRefused(number) => number,
-        Verdict::RightRefused(number) => number,
+        Ok(_) => 0,
+        Err(RampError::WindowTooWide) => 18,
+        Err(RampError::LeftRefused(number)) => number,
+        Err(RampError::RightRefused(number)) => number,
     }
 }
 
-// The side that was refused.
-pub fn verdict_side(v: Verdict) -> u8
+// The side that was refused, by the number that C reads.
+pub fn verdict_side(v: Result<Beasts, RampError>) -> u8
     ensures { result ≡ verdict_side v }
 {
     match v {
-        Verdict::One => 0,
-        Verdict::Two => 0,
-        Verdict::WindowTooWide => 0,
-        Verdict::LeftRefused(_) => LEFT,
-        Verdict::RightRefused(_) => RIGHT,
+        Ok(_) => 0,
+        Err(RampError::WindowTooWide) => 0,
+        Err(RampError::LeftRefused(_)) => LEFT,
+        Err(RampError::RightRefused(_)) => RIGHT,
     }
 }

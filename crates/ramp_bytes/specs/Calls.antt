@@ -1,21 +1,19 @@
 -- The ramp's calls over what C lends (change request E5).
-use Rattle.std.specs.Prelude.{List, [], ◌∷◌, ℕ, ℤ, pos, length}
+use Rattle.std.specs.Prelude.{List, [], ◌∷◌, ℕ, ℤ, pos, length, Result, Ok, Err}
 use Rattle.state_bytes.specs.Results.{refusal}
 use Rattle.table_look.specs.Part.{place_at, part_at}
-use Rattle.ramp.specs.Beast.{one_beast_of, verdict_number, verdict_side}
-use Rattle.ramp.specs.declared.beast.Verdict.{Verdict}
-use Rattle.ramp.specs.declared.beast.Verdict.TheVariants.{One, Two, WindowTooWide, LeftRefused, RightRefused}
+use Rattle.ramp.specs.Beast.{Verdict, one_beast_of, verdict_number, verdict_side}
+use Rattle.ramp.specs.declared.beast.Beasts.TheVariants.{One, Two}
 use Rattle.ramp_newest.specs.Newest.{later_update_of, later_number, later_side}
 use Rattle.ramp_newest.specs.declared.newest.Later.{Later}
-use Rattle.ramp_newest.specs.declared.newest.Later.TheVariants.{Left, Right, LeftNotSound, RightNotSound, NoUpdateHeld}
+use Rattle.ramp_newest.specs.declared.newest.Later.TheVariants.{Left, Right}
+use Rattle.ramp_newest.specs.declared.newest.LaterError.{LaterError}
 
 -- "at least 0 is done": 1 is one beast, 2 is two; below 0 minus the number
 unfoldable pub verdict_result : Verdict → ℤ
-verdict_result One = pos 1
-verdict_result Two = pos 2
-verdict_result WindowTooWide = refusal (verdict_number WindowTooWide)
-verdict_result (LeftRefused n) = refusal (verdict_number (LeftRefused n))
-verdict_result (RightRefused n) = refusal (verdict_number (RightRefused n))
+verdict_result (Ok One) = pos 1
+verdict_result (Ok Two) = pos 2
+verdict_result (Err e) = refusal (verdict_number (Err e))
 
 -- the result, and the side after it, which is always written
 pub record Ruled : Type 0 where
@@ -36,12 +34,10 @@ one_beast_at left leftBase left_stamp leftNext right rightBase right_stamp right
     window)
 
 -- "the part as side, offset and length"; on refusal the side, and an empty part
-unfoldable pub part_numbers : List ℕ → List ℕ → Later → List ℕ
-part_numbers left right (Left k) = later_side (Left k) ∷ place_at left k ∷ length (part_at left k) ∷ []
-part_numbers left right (Right k) = later_side (Right k) ∷ place_at right k ∷ length (part_at right k) ∷ []
-part_numbers left right LeftNotSound = later_side LeftNotSound ∷ 0 ∷ 0 ∷ []
-part_numbers left right RightNotSound = later_side RightNotSound ∷ 0 ∷ 0 ∷ []
-part_numbers left right NoUpdateHeld = later_side NoUpdateHeld ∷ 0 ∷ 0 ∷ []
+unfoldable pub part_numbers : List ℕ → List ℕ → Result Later LaterError → List ℕ
+part_numbers left right (Ok (Left k)) = later_side (Ok (Left k)) ∷ place_at left k ∷ length (part_at left k) ∷ []
+part_numbers left right (Ok (Right k)) = later_side (Ok (Right k)) ∷ place_at right k ∷ length (part_at right k) ∷ []
+part_numbers left right (Err e) = later_side (Err e) ∷ 0 ∷ 0 ∷ []
 
 -- the result, and the three numbers after it, which are always written
 pub record Placed : Type 0 where

@@ -7,8 +7,8 @@ ghost use Rattle.table_look.specs.Part.{place_at, part_at};
 ghost use Rattle.ramp_newest.specs.Newest.{later_update_of};
 ghost use Rattle.ramp_bytes.specs.Calls.{verdict_result, part_numbers, ruled, one_beast_at, placed, newest_update_at};
 
-use ramp::beast::{Seen, Verdict, one_beast, verdict_side};
-use ramp_newest::newest::{Later, later_number, later_side, later_update};
+use ramp::beast::{Beasts, RampError, Seen, one_beast, verdict_number, verdict_side};
+use ramp_newest::newest::{Later, LaterError, later_number, later_side, later_update};
 use table_look::look::{part_at, place_at};
 
 // Below 0, minus the number.
@@ -18,19 +18,17 @@ fn refused(number: u8) -> i32
     0 - number as i32
 }
 
-fn result(v: Verdict) -> i32
+fn result(v: Result<Beasts, RampError>) -> i32
     ensures { result ≡ verdict_result v }
 {
     match v {
-        Verdict::One => 1,
-        Verdict::Two => 2,
-        Verdict::WindowTooWide => -18,
-        Verdict::LeftRefused(number) => refused(number),
-        Verdict::RightRefused(number) => refused(number),
+        Ok(Beasts::One) => 1,
+        Ok(Beasts::Two) => 2,
+        Err(_) => refused(verdict_number(v)),
     }
 }
 
-// One beast, 1, or two, 2. Refuses: 18; of the left side 1, 12, 13; of the right side 1, 12, 13.
+// One beast, 1, or two, 2. Refuses: 18; of the left side 1, 12, 13; of the right side 1, 12, 13. The parameters are those of C.
 pub fn one_beast_at(
     left: &[u8],
     left_base: u32,
@@ -70,15 +68,15 @@ fn numbers_of(side: u8, t: &[u8], age: usize) -> [u32; 3]
     [side as u32, place as u32, part.len() as u32]
 }
 
-fn part_numbers(left: &[u8], right: &[u8], later: Later) -> [u32; 3]
+fn part_numbers(left: &[u8], right: &[u8], later: Result<Later, LaterError>) -> [u32; 3]
     requires { later ≡ later_update_of left.now right.now }
     ensures { result ≡ part_numbers left.now right.now later }
 {
     let side = later_side(later);
     match later {
-        Later::Left(age) => numbers_of(side, left, age),
-        Later::Right(age) => numbers_of(side, right, age),
-        _ => [side as u32, 0, 0],
+        Ok(Later::Left(age)) => numbers_of(side, left, age),
+        Ok(Later::Right(age)) => numbers_of(side, right, age),
+        Err(_) => [side as u32, 0, 0],
     }
 }
 

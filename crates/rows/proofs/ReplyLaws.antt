@@ -7,18 +7,18 @@ use Prim.Native.Nat.{ℕ, ◌≤◌}
 use Rattle.octets.specs.Choice.{pick}
 use Rattle.octets.proofs.Tests.{clash}
 use Rattle.table.specs.Table.{sound_b}
-use Rattle.clock.specs.Answers.{number_of}
+use Rattle.clock.specs.Answers.{number_of, Answer}
 use Rattle.clock.specs.Obeys.{clock_b}
-use Rattle.clock.specs.declared.answers.Answer.{Answer}
-use Rattle.clock.specs.declared.answers.Answer.TheVariants.{TableNotSound, ClockBroken}
 use Rattle.clock.specs.declared.state.Clock.{Clock}
 use Rattle.rows.specs.Reply.{done_b}
 use Rattle.rows.specs.Rows.{Row, first_failed, table_rows}
 use Rattle.rows.proofs.RowLaws.{row_holds, row_fails, whole_alone}
+use Rattle.clock.specs.declared.answers.Refusal.TheVariants.{ClockBroken, TableNotSound}
+use Rattle.std.proofs.Common.{Err}
 
 -- a clock that breaks a rule, beside this table
 abbrev pub broken_of : List ℕ → Answer
-broken_of t = pick (sound_b t) ClockBroken TableNotSound
+broken_of t = pick (sound_b t) (Err ClockBroken) (Err TableNotSound)
 
 -- a call, by its answer and the length of its reply, over every clock
 pub record Replies (t : List ℕ) (answer : Clock → Answer) (len : Clock → ℕ) : Type 0 where
@@ -29,7 +29,7 @@ pub broken_refused : (t : List ℕ) → done_b (broken_of t) ≡ false
 unfolding done_b number_of
 broken_refused t = go (sound_b t)
   where
-    go : (b : Bool) → done_b (pick b ClockBroken TableNotSound) ≡ false
+    go : (b : Bool) → done_b (pick b (Err ClockBroken) (Err TableNotSound)) ≡ false
     go true = refl
     go false = refl
 
@@ -39,7 +39,7 @@ module _ (c : Clock) (t : List ℕ) (room : Bool) (h : clock_b c ≡ false) wher
   unfolding table_rows
   rows_broken ys = go (sound_b t) refl
     where
-      go : (b : Bool) → sound_b t ≡ b → first_failed (table_rows c t room ++ ys) ≡ pick b ClockBroken TableNotSound
+      go : (b : Bool) → sound_b t ≡ b → first_failed (table_rows c t room ++ ys) ≡ pick b (Err ClockBroken) (Err TableNotSound)
       go true e = row_holds _ _ _ e ∙ row_fails _ _ _ (whole_alone c t h)
       go false e = row_fails _ _ _ e
 

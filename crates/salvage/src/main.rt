@@ -2,7 +2,8 @@
 // the report in words to standard error. All that is written is in two buffers, which the proved function `tell` fills.
 #![tactic(auto)]
 
-use anyhow::{Context, Error, Result};
+use anyhow::{Context, Result};
+use programs::ending::end;
 use salvage_text::told::tell;
 use std::io::Read;
 use std::process::ExitCode;
@@ -36,15 +37,9 @@ fn get_back(rt: &HostRuntime) -> Result<ExitCode> {
     })
 }
 
-// Says on standard error what could not be read or written; the status is then 1.
-fn complain(rt: &impl Eprint, why: Error) -> ExitCode {
-    let _ = eprintln!(rt; "salvage: {why:#}");
-    ExitCode::FAILURE
-}
-
 fn main(rt: HostRuntime) -> ExitCode {
     match get_back(&rt) {
         Ok(status) => status,
-        Err(why) => complain(&rt, why),
+        Err(why) => end(&rt, "salvage", Err(why)),
     }
 }

@@ -1,16 +1,13 @@
 -- Salvage over the bytes that C lends.
-use Rattle.std.specs.Prelude.{List, ℕ, ℤ, pos}
+use Rattle.std.specs.Prelude.{List, ℕ, ℤ, pos, Result, Ok, Err}
 use Rattle.state_bytes.specs.Results.{refusal}
 use Rattle.salvage_call.specs.Salvage.{Salvage, salvage_of, salvage_number}
-use Rattle.salvage_call.specs.declared.salvage.Salvaged.{Salvaged}
-use Rattle.salvage_call.specs.declared.salvage.Salvaged.TheVariants.{Done, DoesNotFit, SizeImpossible, NoRecord}
+use Rattle.salvage_call.specs.declared.salvage.SalvageError.{SalvageError}
 
 -- "at least 0 is done": the report's length; below 0 minus the number
-abbrev pub salvage_result : Salvaged → ℤ
-salvage_result (Done n) = pos n
-salvage_result DoesNotFit = refusal (salvage_number DoesNotFit)
-salvage_result SizeImpossible = refusal (salvage_number SizeImpossible)
-salvage_result NoRecord = refusal (salvage_number NoRecord)
+abbrev pub salvage_result : Result ℕ SalvageError → ℤ
+salvage_result (Ok n) = pos n
+salvage_result (Err e) = refusal (salvage_number (Err e))
 
 -- the result, and both outputs after it
 pub record SalvagedBytes : Type 0 where

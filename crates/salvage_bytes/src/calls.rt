@@ -2,15 +2,15 @@
 ghost use Rattle.std.specs.Prelude.{◌≡◌};
 ghost use Rattle.salvage_bytes.specs.Calls.{salvaged_bytes, salvage_at};
 
-use salvage_call::salvage::{Salvaged, salvage};
+use salvage_call::salvage::{SalvageError, salvage};
 
 pub fn salvage_at(input: &[u8], table: &mut [u8], report: &mut [u8]) -> i32
     ensures { salvaged_bytes result table.new report.new ≡ salvage_at input.now table.old report.old }
 {
     match salvage(input, table, report) {
-        Salvaged::Done(told) => told as i32,
-        Salvaged::DoesNotFit => -3,
-        Salvaged::SizeImpossible => -20,
-        Salvaged::NoRecord => -21,
+        Ok(told) => told as i32,
+        Err(SalvageError::DoesNotFit) => -3,
+        Err(SalvageError::SizeImpossible) => -20,
+        Err(SalvageError::NoRecord) => -21,
     }
 }

@@ -1,11 +1,11 @@
 -- A line put together piece by piece is the pieces in a row, since they are short enough for it; and how long it is at most.
 -- Assumes nothing.
-use mathlib.Core.Path.{◌≡◌, sym, ap, ◌∙◌}
+use mathlib.Core.Path.{◌≡◌, refl, sym, ap, ◌∙◌}
 use mathlib.Core.Bool.{Bool, true, false}
 use mathlib.Core.List.{List, [], ◌∷◌, ◌++◌, append_assoc}
 use Prim.Native.Nat.{ℕ, ◌≤◌}
 use native.Mathlib.Omega.{arith}
-use borrow.Author.Tests.{eq-eqb, ne_eqb}
+use borrow.Author.Tests.{ne_eqb}
 use lib.Dec.{eqb}
 use lib.ListN.{length, length-append}
 use Rattle.octets.specs.Choice.{pick}
@@ -14,6 +14,12 @@ use Rattle.text.specs.Line.{fitted, decimal}
 use Rattle.text.proofs.TextLaws.{fitted_short, fitted_then}
 use Rattle.text.proofs.DecimalLaws.{decimal_short_any}
 use Rattle.salvage_report.specs.Report.{le48}
+use Rattle.std.proofs.Common.{Result, Ok, Err}
+use Rattle.std.specs.Result.{result_unwrap_or}
+use Rattle.salvage_report.specs.Kinds.{byte_of, StandsFor}
+use Rattle.salvage_report.specs.declared.kind.Kind.{Kind}
+use Rattle.salvage_report.specs.declared.kind.Kind.TheVariants.{Slot, Slots, Held, Offset, Next, Rest}
+use Rattle.salvage_report.specs.declared.kind.UnknownKind.{UnknownKind}
 use Rattle.salvage_text.specs.Told.{slot_word, not_kept_word, slots_word, held_word, offset_word, next_word, rest_word, now_word, refused_word, field_word, slot_line, field_line, entry_line, refused_line}
 
 -- the first piece on an empty line, and one that is all there is on it
@@ -78,15 +84,40 @@ refused_joined n a b c =
     fitted_then [] (refused_word ++ d) (10 ∷ []) p c
     ∙ simp append_assoc (fitted_short (refused_line n) (omega (arith, refused_short n)))
 
+-- what the kind tells of a byte, where a byte that stands for none is told as the last field's
+pub record Told (byte : ℕ) (kind : Kind) : Type 0 where
+  pub slot : eqb byte 0 ≡ eqb (byte_of kind) 0
+  pub word : field_word byte ≡ field_word (byte_of kind)
+
+pub told_as : (byte : ℕ) (r : Result Kind UnknownKind) {kind : Kind} → StandsFor byte r → kind ≡ result_unwrap_or r Rest → Told byte kind
+unfolding field_word
+told_as byte (Ok kind) e k = rw k (record { slot = ap (λ (b : ℕ). eqb b 0) (sym e); word = ap field_word (sym e) })
+told_as byte (Err u) e k =
+    rw k
+    (record {
+      slot = ne_eqb byte 0 (λ h. omega arith);
+      word =
+          simp
+          (ne_eqb byte 1 (λ h. omega arith), ne_eqb byte 2 (λ h. omega arith), ne_eqb byte 3 (λ h. omega arith), ne_eqb byte 4 (λ h. omega arith));
+    })
+
+not_slot : (kind : Kind) → (kind ≡ Slot → ⊥) → eqb (byte_of kind) 0 ≡ false
+not_slot Slot h = absurd (h refl)
+not_slot Slots h = refl
+not_slot Held h = refl
+not_slot Offset h = refl
+not_slot Next h = refl
+not_slot Rest h = refl
+
 -- an entry's line by its kind
 module _ (e : List ℕ) where
-  pub entry_slot : at e 0 ≡ 0 → entry_line e ≡ slot_line (le16 e 2)
+  pub entry_slot : {kind : Kind} → Told (at e 0) kind → kind ≡ Slot → entry_line e ≡ slot_line (le16 e 2)
   unfolding entry_line
-  entry_slot h = rw (eq-eqb (at e 0) 0 h)
+  entry_slot t h = rw (t.slot ∙ ap (λ (k : Kind). eqb (byte_of k) 0) h)
 
-  pub entry_field : (at e 0 ≡ 0 → ⊥) → entry_line e ≡ field_line (at e 0) (le48 e 4) (le48 e 10)
-  unfolding entry_line
-  entry_field h = rw (ne_eqb (at e 0) 0 h)
+  pub entry_field : {kind : Kind} → Told (at e 0) kind → (kind ≡ Slot → ⊥) → entry_line e ≡ field_line (byte_of kind) (le48 e 4) (le48 e 10)
+  unfolding entry_line field_line
+  entry_field {kind} t h = rw (t.slot ∙ not_slot kind h, t.word)
 
   pub entry_short : length (entry_line e) ≤ 53
   unfolding entry_line

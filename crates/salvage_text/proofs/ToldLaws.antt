@@ -3,54 +3,41 @@
 use mathlib.Core.Path.{◌≡◌, refl, sym, ap, ◌∙◌}
 use mathlib.Core.Bool.{Bool, true, false}
 use mathlib.Core.List.{List, [], ◌++◌}
-use Prim.Native.Nat.{ℕ, zero, suc, ◌+◌, ◌*◌, ◌-◌, ◌/◌, ◌≤◌, ◌<◌}
+use Prim.Native.Nat.{ℕ, zero, suc, ◌/◌, ◌≤◌, ◌<◌}
 use native.Mathlib.Omega.{arith}
 use borrow.Author.Tests.{leb-true, leb-false}
+use Rattle.std.proofs.Common.{Result, Ok, Err}
 use lib.Dec.{leb}
-use lib.ListN.{length, drop, replicate, length-append}
-use lib.Seq.{drop-drop}
+use lib.ListN.{length, replicate, length-append}
+use lib.Seq.{take_at, drop_at}
 use Rattle.octets.specs.Choice.{both, pick}
-use Rattle.octets.specs.Parts.{part, over}
+use Rattle.octets.specs.Parts.{over}
 use Rattle.text.specs.Laid.{Filled, filled, laid}
 use Rattle.text.proofs.LaidLaws.{laid_within}
-use Rattle.salvage_call.specs.Salvage.{Salvage, salvaged, given, salvage_of, salvage_number}
+use Rattle.salvage_call.specs.Salvage.{Salvage, salvaged, given, salvage_of}
 use Rattle.salvage_call.proofs.SalvageLaws.{is_impossible, is_short, is_sound, is_none, is_rebuilt, length_salvaged, done_small}
-use Rattle.salvage_call.specs.declared.salvage.Salvaged.{Salvaged}
-use Rattle.salvage_call.specs.declared.salvage.Salvaged.TheVariants.{Done, DoesNotFit, SizeImpossible, NoRecord}
-use Rattle.salvage_text.specs.Told.{entry_line, lines_of, report_lines, refused_line, told_by, back_by, Printed, report_room, printed, printed_by, tell_of}
+use Rattle.salvage_call.specs.declared.salvage.SalvageError.{SalvageError}
+use Rattle.salvage_call.specs.declared.salvage.SalvageError.TheVariants.{DoesNotFit}
+use Rattle.salvage_text.specs.Told.{entry_line, lines_of, report_lines, told_by, back_by, Printed, report_room, printed, printed_by, tell_of}
 use Rattle.salvage_text.specs.declared.told.Told.{Told}
 
--- of n entries, those from the one at place k on
-module _ (r : List ℕ) (n k : ℕ) where
-  pub lines_next : k < n → lines_of (n - k) (drop (16 * k) r) ≡ entry_line (part r (16 * k) 16) ++ lines_of (n - (k + 1)) (drop (16 * (k + 1)) r)
-  unfolding lines_of
-  lines_next h =
-      let one : n - k ≡ suc (n - (k + 1)) = omega arith in
-      let on : 16 * k + 16 ≡ 16 * (k + 1) = omega arith in
-      rw (one, drop-drop 16 (16 * k) r, on)
+-- the lines of a report with one more entry in front, and of one that is too short for an entry
+pub lines_next : (x r : List ℕ) → length x ≡ 16 → report_lines (x ++ r) ≡ entry_line x ++ report_lines r
+unfolding report_lines lines_of
+lines_next x r e =
+    let more : length (x ++ r) / 16 ≡ suc (length r / 16) = omega (arith, length-append x r) in
+    rw (more, take_at x r 16 e, drop_at x r 16 e)
 
-  pub lines_end : n ≤ k → lines_of (n - k) (drop (16 * k) r) ≡ []
-  unfolding lines_of
-  lines_end h = let none : n - k ≡ 0 = omega arith in rw none
-
--- all of them
-pub lines_all : (r : List ℕ) {n : ℕ} → n ≡ length r / 16 → lines_of (n - 0) (drop (16 * 0) r) ≡ report_lines r
-unfolding report_lines
-lines_all r {n} e = let all : n - 0 ≡ length r / 16 = omega arith in rw all
-
-pub told_refused : (a : Salvaged) (r : List ℕ) → ((n : ℕ) → a ≡ Done n → ⊥) → refused_line (salvage_number a) ≡ told_by a r
-unfolding told_by
-told_refused (Done n) r other = absurd (other n refl)
-told_refused DoesNotFit r other = refl
-told_refused SizeImpossible r other = refl
-told_refused NoRecord r other = refl
+pub lines_end : (r : List ℕ) → length r < 16 → report_lines r ≡ []
+unfolding report_lines lines_of
+lines_end r h = let none : length r / 16 ≡ 0 = omega arith in rw none
 
 abbrev buffers : Filled → Filled → Printed
 buffers table told = record { table = table; told = told }
 
 -- a call with room for any report, that left x and y in its rooms
-module _ (input table : List ℕ) {a : Salvaged} {x y : List ℕ} (called : salvaged a x y ≡ salvage_of input table (replicate report_room 0)) where
-  pub done_within : (n : ℕ) → a ≡ Done n → n ≤ report_room
+module _ (input table : List ℕ) {a : Result ℕ SalvageError} {x y : List ℕ} (called : salvaged a x y ≡ salvage_of input table (replicate report_room 0)) where
+  pub done_within : (n : ℕ) → a ≡ Ok n → n ≤ report_room
   done_within n e = done_small input table (replicate report_room 0) n (ap (λ (s : Salvage). s.answer) (sym called) ∙ e)
 
   -- both buffers, once the report is told
@@ -75,15 +62,15 @@ abbrev Stands : ℕ → Salvage → Type 0
 Stands size s = back_by s.answer size ≤ length s.table
 
 given_stands : (new told table report : List ℕ) (size : ℕ) → length new ≡ size → Stands size (given new told table report)
-unfolding given back_by over
+unfolding given over
 given_stands new told table report size e = go (both (leb (length new) (length table)) (leb (length told) (length report)))
   where
-    go : (b : Bool) → Stands size (pick b (salvaged (Done (length told)) (over table 0 new) (over report 0 told)) (salvaged DoesNotFit table report))
+    go : (b : Bool) → Stands size (pick b (salvaged (Ok (length told)) (over table 0 new) (over report 0 told)) (salvaged (Err DoesNotFit) table report))
     go true = simp length-append (omega arith)
     go false = omega arith
 
 stands : (t table report : List ℕ) → Stands (length t) (salvage_of t table report)
-unfolding back_by over
+unfolding over
 stands t table report =
     by_test _
     (λ z. by_test _

@@ -2,11 +2,10 @@
 ghost use Rattle.std.specs.Prelude.{◌≡◌, ℕ, ◌*◌, ◌/◌, ◌≤◌, length};
 ghost use Rattle.text.specs.Laid.{filled, laid};
 ghost use Rattle.salvage_report.specs.Report.{entry_length};
-ghost use Rattle.salvage_call.specs.declared.salvage.Salvaged.TheVariants.{Done};
 ghost use Rattle.salvage_text.specs.Told.{report_room, report_lines, told_by, back_by, printed, tell_of};
 
 use crate::lines::{entry_line, refused_line};
-use salvage_call::salvage::{Salvaged, salvage, salvage_number};
+use salvage_call::salvage::{SalvageError, salvage, salvage_number};
 use salvage_report::entry::ENTRY_BYTES;
 use text::line::put_line;
 
@@ -25,37 +24,30 @@ fn put_lines(out: &mut [u8], report: &[u8]) -> usize
     requires { (53 * (length report.now / entry_length) ≤ length out.old) × (length report.now ≤ report_room) }
     ensures { filled result out.new ≡ laid out.old 0 (report_lines report.now) }
 {
-    let entries = report.len() / ENTRY_BYTES;
     let mut end = 0;
-    let mut k = 0;
-    while k < entries {
-        let from = ENTRY_BYTES * k;
-        let past = from + ENTRY_BYTES;
-        end = put_line(out, end, entry_line(&report[from..past]));
-        k += 1;
+    for entry in report.chunks_exact(ENTRY_BYTES) {
+        end = put_line(out, end, entry_line(entry));
     }
     end
 }
 
 // What is said of an answer.
-fn put_told(out: &mut [u8], answer: Salvaged, report: &[u8]) -> usize
-    requires { (65536 ≤ length out.old) × (length report.now ≤ report_room) × ((n : ℕ) → answer ≡ Done n → n ≤ length report.now) }
+fn put_told(out: &mut [u8], answer: Result<usize, SalvageError>, report: &[u8]) -> usize
+    requires { (65536 ≤ length out.old) × (length report.now ≤ report_room) × ((n : ℕ) → answer ≡ Ok n → n ≤ length report.now) }
     ensures { filled result out.new ≡ laid out.old 0 (told_by answer report.now) }
 {
-    let Salvaged::Done(n) = answer else {
-        return put_line(out, 0, refused_line(salvage_number(answer)));
-    };
-    put_lines(out, &report[..n])
+    match answer {
+        Ok(n) => put_lines(out, &report[..n]),
+        Err(_) => put_line(out, 0, refused_line(salvage_number(answer))),
+    }
 }
 
-fn back(answer: Salvaged, size: usize) -> usize
+fn back(answer: Result<usize, SalvageError>, size: usize) -> usize
     ensures { result ≡ back_by answer size }
 {
     match answer {
-        Salvaged::Done(_) => size,
-        Salvaged::DoesNotFit => 0,
-        Salvaged::SizeImpossible => 0,
-        Salvaged::NoRecord => 0,
+        Ok(_) => size,
+        Err(_) => 0,
     }
 }
 

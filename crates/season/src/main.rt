@@ -3,16 +3,17 @@
 // entry is read, a step made, its lines written. The one buffer that is read into has 64 KiB.
 #![tactic(auto)]
 
-ghost use Rattle.std.specs.Prelude.{◌≡◌, true, false, ◌+◌, ◌≤◌, length, IfOk};
+ghost use Rattle.std.specs.Prelude.{◌≡◌, ◌+◌, ◌≤◌, length, IfOk, IfSome};
 
-use anyhow::{Context, Error, Result};
-use season_figures::figures::Figures;
+use anyhow::{Context, Result};
+use programs::ending::end;
 use season_step::step::{LINES_BYTES, Run, SIZE_BYTES, begun, step, table_bytes};
 use std::io;
 use std::io::Read;
 use std::process::ExitCode;
 
-// Reads until `buf` is full or the input ends, and answers how many bytes it read.
+// Reads until `buf` is full or the input ends, and answers how many bytes it read. By `read`, as `read_exact` does not say how
+// many bytes came before an input's end.
 fn read_part(input: &mut impl Read, buf: &mut [u8]) -> io::Result<usize>
     ensures { IfOk result (λ bytes. bytes ≤ length buf.old) }
 {
@@ -38,48 +39,31 @@ fn read_entry(input: &mut impl Read, buf: &mut [u8]) -> io::Result<usize>
     Ok(n + table)
 }
 
-// An entry read, a step made, its lines written.
-fn turn(rt: &HostRuntime, position: u32, totals: Figures, buf: &mut [u8]) -> Result<Run>
+// An entry read, a step made, its lines written. Answers where the run stands, if it goes on.
+fn turn(rt: &HostRuntime, run: Run, buf: &mut [u8]) -> Result<Option<Run>>
     requires { 65536 ≤ length buf.old }
-    ensures { IfOk result (λ run. run.more ≡ true → (position ≤ 65535) × (run.position ≡ position + 1)) }
+    ensures { IfOk result (λ next. IfSome next (λ after. (run.position ≤ 65535) × (after.position ≡ run.position + 1))) }
 {
     let n = read_entry(&mut rt.stdin(), buf).context("the input could not be read")?;
     let mut out = [0u8; LINES_BYTES];
-    let run = step(position, totals, &buf[..n], &mut out);
-    let len = run.len;
+    let progress = step(run, &buf[..n], &mut out);
     rt.stdout()
-        .write_all(&out[..len])
+        .write_all(&out[..progress.len])
         .context("the figures could not be written")?;
-    Ok(run)
+    Ok(progress.run.continue_value())
 }
 
-// Says on standard error what could not be read or written. Nothing more is written.
-fn stopped(rt: &impl Eprint, position: u32, totals: Figures, why: Error) -> Run
-    ensures { result.more ≡ false }
-{
-    let _ = eprintln!(rt; "season: {why:#}");
-    Run {
-        len: 0,
-        more: false,
-        position,
-        totals,
-    }
-}
-
-fn main(rt: HostRuntime) -> ExitCode {
-    let mut status = ExitCode::SUCCESS;
+// Turn after turn, as long as the run goes on.
+fn season(rt: &HostRuntime) -> Result<()> {
     let mut buf = [0u8; 65536];
-    let mut run = begun();
-    while run.more {
-        let position = run.position;
-        let totals = run.totals;
-        run = match turn(&rt, position, totals, &mut buf) {
-            Ok(next) => next,
-            Err(why) => {
-                status = ExitCode::FAILURE;
-                stopped(&rt, position, totals, why)
-            }
-        };
+    let mut next = Some(begun());
+    while let Some(run) = next {
+        next = turn(rt, run, &mut buf)?;
     }
-    status
+    Ok(())
+}
+
+// What could not be read or written is said on standard error, and nothing more is written.
+fn main(rt: HostRuntime) -> ExitCode {
+    end(&rt, "season", season(&rt))
 }

@@ -5,6 +5,7 @@ use mathlib.Core.Bool.{Bool, true, false}
 use mathlib.Core.List.{List, ◌++◌}
 use Prim.Native.Nat.{ℕ, ◌+◌, ◌≤◌, ◌<◌}
 use native.Mathlib.Omega.{arith}
+use Rattle.std.proofs.Common.{Option, Some, None, IfSome, ControlFlow, Continue, Break}
 use borrow.Author.Tests.{eq-eqb, ne_eqb, eqb-true, leb-true, le-leb, lt-leb}
 use lib.Dec.{leb, eqb}
 use lib.ListN.{length, drop}
@@ -18,7 +19,8 @@ use Rattle.table.proofs.HeadLaws.{size_reads}
 use Rattle.season_figures.specs.Figures.{sum_of, figures_in, in_widths}
 use Rattle.season_figures.specs.declared.figures.Figures.{Figures}
 use Rattle.season_text.specs.Lines.{table_line, ended_line, total_line}
-use Rattle.season_step.specs.Step.{most_tables, table_bytes, whole_b, Stepped, ends_with, taken, passed_over, step_of, Outcome, outcome, stepped}
+use Rattle.season_step.specs.Step.{most_tables, table_bytes, whole_b, Stepped, ends_with, taken, passed_over, step_of, Outcome, goes_on, stands, outcome, stepped}
+use Rattle.season_step.specs.declared.step.Progress.{Progress}
 use Rattle.season_step.specs.declared.step.Run.{Run}
 
 module _ (bytes : List ℕ) where
@@ -45,6 +47,11 @@ module _ (bytes : List ℕ) where
   whole_long h =
       let e = eqb-true (length bytes) (4 + le32 bytes 0) (both_reads (size_b (le32 bytes 0)) _ h).1 in omega arith
 
+  -- where the size is permitted or not
+  pub whole_said : (permitted : Bool) → size_b (le32 bytes 0) ≡ permitted → whole_b bytes ≡ both permitted (eqb (length bytes) (4 + le32 bytes 0))
+  unfolding whole_b
+  whole_said permitted e = ap (λ (b : Bool). both b (eqb (length bytes) (4 + le32 bytes 0))) e
+
   pub whole_short : length bytes < 4 → whole_b bytes ≡ false
   whole_short h = false_by _ (λ w. omega (arith, whole_long w))
 
@@ -53,6 +60,21 @@ pub outcome_is : (b x : List ℕ) (n : ℕ) (s : Stepped) → filled n x ≡ lai
     → ◌≡◌ {A = Outcome} (record { lines = filled n x; more = s.more; position = s.position; totals = s.totals }) (stepped b s)
 unfolding stepped
 outcome_is b x n s e = ap (λ (l : Filled). record { lines = l; more = s.more; position = s.position; totals = s.totals }) e
+
+-- what a step answers can be told from its outcome
+abbrev flow : Bool → Run → ControlFlow Run Run
+flow true run = Continue run
+flow false run = Break run
+
+flow_whole : (f : ControlFlow Run Run) → flow (goes_on f) (stands f) ≡ f
+flow_whole (Continue run) = refl
+flow_whole (Break run) = refl
+
+abbrev pub answered : Outcome → Progress
+answered o = record { len = o.lines.end; run = flow o.more (record { position = o.position; totals = o.totals }) }
+
+pub answered_is : (s : Progress) (buffer : List ℕ) → answered (outcome s buffer) ≡ s
+answered_is s buffer = ap (λ (f : ControlFlow Run Run). record { len = s.len; run = f }) (flow_whole s.run)
 
 -- a table, refused or taken
 module _ (p : ℕ) (f : Figures) (t : List ℕ) where
@@ -81,6 +103,16 @@ module _ (p : ℕ) (f : Figures) (entry : List ℕ) where
   unfolding step_of
   step_cut h e = rw (ne_eqb _ _ h, e)
 
+  pub step_late : (length entry ≡ 0 → ⊥) → most_tables < p → step_of p f entry ≡ ends_with p f (ended_line p ++ total_line f)
+  step_late h late =
+      step_cut h (false_by _ (λ b. omega (arith, late, leb-true _ _ (both_reads (leb p most_tables) (whole_b entry) b).0)))
+
+  pub step_partial : (length entry ≡ 0 → ⊥) → whole_b entry ≡ false → step_of p f entry ≡ ends_with p f (ended_line p ++ total_line f)
+  step_partial h w = step_cut h (false_by _ (λ b. clash (whole_b entry) (both_reads (leb p most_tables) _ b).1 w))
+
+  pub can : p ≤ most_tables → whole_b entry ≡ true → both (leb p most_tables) (whole_b entry) ≡ true
+  can h w = rw (le-leb p most_tables h, w)
+
   pub step_table : (length entry ≡ 0 → ⊥) → both (leb p most_tables) (whole_b entry) ≡ true
       → step_of p f entry ≡ pick (sound_b (drop 4 entry)) (taken p f (drop 4 entry)) (passed_over p f)
   unfolding step_of
@@ -101,12 +133,19 @@ module _ (p : ℕ) (f : Figures) (entry : List ℕ) where
       go false true false h = (refl, refl)
 
 -- what a caller of `step` needs of its outcome
-module _ (p : ℕ) (f : Figures) (entry b x : List ℕ) (s : Run) (e : outcome s x ≡ stepped b (step_of p f entry)) where
+module _ (p : ℕ) (f : Figures) (entry b x : List ℕ) (s : Progress) (e : outcome s x ≡ stepped b (step_of p f entry)) where
   pub outcome_within : s.len ≤ length x
   unfolding stepped
   outcome_within = laid_within b (step_of p f entry).text (ap (λ (o : Outcome). o.lines) e)
 
-  pub outcome_more : s.more ≡ true → (p ≤ most_tables) × (s.position ≡ p + 1)
+  pub outcome_more : goes_on s.run ≡ true → (p ≤ most_tables) × ((stands s.run).position ≡ p + 1)
   unfolding stepped
   outcome_more h =
       let r = step_more p f entry (sym (ap (λ (o : Outcome). o.more) e) ∙ h) in (r.0, ap (λ (o : Outcome). o.position) e ∙ r.1)
+
+  -- the run that goes on, if there is one
+  pub outcome_next : (next : Option Run) → IfSome next (λ after. s.run ≡ Continue after)
+      → IfSome next (λ after. (p ≤ most_tables) × (after.position ≡ p + 1))
+  outcome_next None h = h
+  outcome_next (Some after) h =
+      let r = outcome_more (ap goes_on h) in (r.0, sym (ap (λ (f : ControlFlow Run Run). (stands f).position) h) ∙ r.1)

@@ -2,6 +2,8 @@
 -- bytes". An entry is a size with its table; here is what the run does at one of them, from its position, the totals so far and the
 -- entry's bytes.
 use Rattle.std.specs.Prelude.{Bool, true, false, List, ◌++◌, ℕ, ◌+◌, leb, eqb, length, drop}
+use Rattle.std.specs.declared.ops.ControlFlow.{ControlFlow}
+use Rattle.std.specs.declared.ops.ControlFlow.TheVariants.{Continue, Break}
 use Rattle.octets.specs.Choice.{both, pick}
 use Rattle.octets.specs.Numbers.{le32}
 use Rattle.text.specs.Laid.{Filled, filled, laid}
@@ -9,6 +11,7 @@ use Rattle.table.specs.Table.{size_b, held, sound_b}
 use Rattle.season_figures.specs.Figures.{nothing, sum_of, figures_in, in_widths}
 use Rattle.season_figures.specs.declared.figures.Figures.{Figures}
 use Rattle.season_text.specs.Lines.{table_line, refused_line, ended_line, total_line}
+use Rattle.season_step.specs.declared.step.Progress.{Progress}
 use Rattle.season_step.specs.declared.step.Run.{Run}
 
 -- "its size in four bytes"
@@ -19,9 +22,9 @@ size_length = 4
 abbrev pub most_tables : ℕ
 most_tables = 65535
 
--- a run before its first entry: nothing is written, and the first position is 1
+-- a run before its first entry: the first position is 1
 unfoldable pub beginning : Run
-beginning = record { len = 0; more = true; position = 1; totals = nothing }
+beginning = record { position = 1; totals = nothing }
 
 -- how many bytes of a table follow an entry's first four: as many as they say, where that is a permitted size. None follow another size, nor
 -- where the input ends before the fourth.
@@ -76,8 +79,18 @@ pub record Outcome : Type 0 where
   pub position : ℕ
   pub totals : Figures
 
-abbrev pub outcome : Run → List ℕ → Outcome
-outcome s buffer = record { lines = filled s.len buffer; more = s.more; position = s.position; totals = s.totals }
+-- whether a run goes on, and where it stands
+abbrev pub goes_on : ControlFlow Run Run → Bool
+goes_on (Continue run) = true
+goes_on (Break run) = false
+
+abbrev pub stands : ControlFlow Run Run → Run
+stands (Continue run) = run
+stands (Break run) = run
+
+abbrev pub outcome : Progress → List ℕ → Outcome
+outcome s buffer =
+    record { lines = filled s.len buffer; more = goes_on s.run; position = (stands s.run).position; totals = (stands s.run).totals }
 
 unfoldable pub stepped : List ℕ → Stepped → Outcome
 stepped buffer s = record { lines = laid buffer 0 s.text; more = s.more; position = s.position; totals = s.totals }

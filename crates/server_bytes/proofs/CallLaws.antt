@@ -7,29 +7,26 @@ use Prim.Native.Nat.{ℕ, ◌≤◌}
 use native.Mathlib.Omega.{arith}
 use lib.IntN.{ℤ}
 use lib.ListN.{length}
-use Rattle.clock.specs.Answers.{number_of}
-use Rattle.clock.specs.Events.{event}
+use Rattle.clock.specs.Answers.{number_of, Answer}
+use Rattle.clock.specs.Events.{event, Event}
 use Rattle.clock.specs.Obeys.{clock_b}
-use Rattle.clock.specs.declared.answers.Answer.{Answer}
-use Rattle.clock.specs.declared.answers.Answer.TheVariants.{ClockBroken}
-use Rattle.clock.specs.declared.events.Event.{Event}
 use Rattle.clock.specs.declared.state.Clock.{Clock}
-use Rattle.rows.specs.Reply.{Outcome, outcome, done_b}
-use Rattle.rows.specs.declared.reply.Reply.{Reply}
+use Rattle.rows.specs.Reply.{Outcome, outcome, done_b, Reply}
 use Rattle.rows.proofs.ReplyLaws.{Replies, obeyed, broken_refused}
-use Rattle.racp_notify.specs.Notify.{Notice, notice}
-use Rattle.racp_notify.specs.declared.notify.Notified.{Notified}
+use Rattle.racp_notify.specs.Notify.{Notice, notice, Notified}
 use Rattle.state_bytes.specs.State.{state_bytes, clock_of}
 use Rattle.state_bytes.proofs.StateLaws.{obeys_size}
 use Rattle.server_bytes.specs.Results.{closing_length, reply_of, Ran, ran, settled_of}
 use Rattle.server_bytes.specs.Events.{eventful}
 use Rattle.server_bytes.specs.Calls.{called, replied, notified}
+use Rattle.clock.specs.declared.answers.Refusal.TheVariants.{ClockBroken}
+use Rattle.std.proofs.Common.{Err}
 
 -- a call that is done was lent an image
 abbrev pub Sized : List ℕ → Answer → Type 0
 Sized s a = done_b a ≡ true → length s ≡ state_bytes
 
-clock_refused : done_b ClockBroken ≡ false
+clock_refused : done_b (Err ClockBroken) ≡ false
 unfolding done_b number_of
 clock_refused = refl
 
@@ -46,7 +43,7 @@ module _ (s : List ℕ) {c : Clock} (e : c ≡ clock_of s) where
     value : v ≡ f (clock_of s)
     value = u ∙ ap f e
 
-    pub event_sized : ((k : Clock) → clock_b k ≡ false → f k ≡ event ClockBroken k) → Sized s v.answer
+    pub event_sized : ((k : Clock) → clock_b k ≡ false → f k ≡ event (Err ClockBroken) k) → Sized s v.answer
     event_sized broken =
         sized_by s v.answer (λ h. ap (λ (x : Event). done_b x.answer) (value ∙ broken (clock_of s) h) ∙ clock_refused)
 

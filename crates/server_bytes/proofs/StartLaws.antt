@@ -8,12 +8,12 @@ use borrow.Author.Tests.{eq-eqb, ne_eqb}
 use lib.IntN.{ℤ}
 use lib.ListN.{length}
 use Rattle.table.specs.Table.{size_b}
-use Rattle.clock.specs.declared.events.Event.{Event}
 use Rattle.update.specs.Start.{begun, new_reader_of}
 use Rattle.state_bytes.specs.State.{state_bytes}
 use Rattle.state_bytes.specs.Results.{refusal}
 use Rattle.server_bytes.specs.Results.{Ran, ran, settled_of}
 use Rattle.server_bytes.specs.Start.{started_bytes, short_of, begun_at, start_at}
+use Rattle.clock.specs.Events.{Event}
 
 pub short_2 : (n : ℕ) → size_b n ≡ true → short_of n ≡ refusal 2
 unfolding short_of

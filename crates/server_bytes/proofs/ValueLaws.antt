@@ -5,10 +5,8 @@ use mathlib.Core.List.{List}
 use Prim.Native.Nat.{ℕ, ◌≤◌}
 use native.Mathlib.Omega.{arith}
 use lib.IntN.{ℤ}
-use Rattle.rows.specs.Reply.{Outcome, outcome}
-use Rattle.rows.specs.declared.reply.Reply.{Reply}
-use Rattle.characteristics.specs.Value.{Told, told}
-use Rattle.characteristics.specs.declared.value.Value.{Value}
+use Rattle.rows.specs.Reply.{Outcome, outcome, Reply}
+use Rattle.characteristics.specs.Value.{Told, told, Value}
 use Rattle.server_bytes.specs.Results.{result_of}
 use Rattle.server_bytes.specs.ValuesRead.{shown, answered_bytes, telling}
 

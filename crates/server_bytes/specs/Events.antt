@@ -1,7 +1,6 @@
 -- The clock events that take no table, over the clock that the state's bytes stand for.
 use Rattle.std.specs.Prelude.{Bool, List, ℕ, ltb}
-use Rattle.clock.specs.Events.{seconds_of, switches_of, disconnect_of}
-use Rattle.clock.specs.declared.events.Event.{Event}
+use Rattle.clock.specs.Events.{seconds_of, switches_of, disconnect_of, Event}
 use Rattle.state_bytes.specs.State.{clock_of}
 use Rattle.server_bytes.specs.Results.{Ran, settled_of}
 

@@ -1,14 +1,12 @@
 -- What a call of the server answers over bytes, and what it leaves of the state, a lent buffer with the clock's image.
 use Rattle.std.specs.Prelude.{Bool, true, false, List, ℕ, ◌+◌, ℤ, pos}
 use Rattle.octets.specs.Choice.{pick}
-use Rattle.clock.specs.Answers.{number_of}
-use Rattle.clock.specs.declared.answers.Answer.{Answer}
+use Rattle.clock.specs.Answers.{number_of, Answer}
 use Rattle.clock.specs.declared.state.Clock.{Clock}
-use Rattle.rows.specs.Reply.{done_b, reply}
-use Rattle.rows.specs.declared.reply.Reply.{Reply}
-use Rattle.racp_notify.specs.declared.notify.Notified.{Notified}
+use Rattle.rows.specs.Reply.{done_b, reply, Reply}
 use Rattle.state_bytes.specs.Results.{refusal}
 use Rattle.state_bytes.specs.State.{image_of}
+use Rattle.racp_notify.specs.Notify.{Notified}
 
 -- the answer of a call that wrote n bytes, or refused
 unfoldable pub result_of : Answer → ℕ → ℤ

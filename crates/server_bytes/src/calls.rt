@@ -2,7 +2,7 @@
 ghost use Rattle.std.specs.Prelude.{◌≡◌};
 ghost use Rattle.server_bytes.specs.Calls.{called, fault_at, dtcp_at, racp_at, notify_at};
 
-use crate::results::{reply_of, settle};
+use crate::results::{length_of, settle};
 use racp_access::access::record_access;
 use racp_notify::notify::notify;
 use state_bytes::state::clock_of;
@@ -13,16 +13,18 @@ use update::time_update::time_update;
 pub fn fault_at(state: &mut [u8], table: &mut [u8], out: &mut [u8]) -> i32
     ensures { called result state.new table.new out.new ≡ fault_at state.old table.old out.old }
 {
-    let reply = fault(clock_of(state), table, out);
-    settle(state, reply)
+    let mut clock = clock_of(state);
+    let answer = fault(&mut clock, table, out);
+    settle(state, clock, answer)
 }
 
 // A write to the Device Time Control Point. Refuses: 1, 2 whole, 3, 4, 5, 6. Answers the response's length.
 pub fn dtcp_at(state: &mut [u8], table: &mut [u8], write: &[u8], out: &mut [u8]) -> i32
     ensures { called result state.new table.new out.new ≡ dtcp_at state.old table.old write.now out.old }
 {
-    let reply = time_update(clock_of(state), table, write, out);
-    settle(state, reply)
+    let mut clock = clock_of(state);
+    let answer = time_update(&mut clock, table, write, out);
+    settle(state, clock, answer)
 }
 
 // A write to the Record Access Control Point. Refuses: 1, 2 whole, 3, 4, 5, 6. Answers the response's length;
@@ -30,8 +32,9 @@ pub fn dtcp_at(state: &mut [u8], table: &mut [u8], write: &[u8], out: &mut [u8])
 pub fn racp_at(state: &mut [u8], table: &[u8], write: &[u8], out: &mut [u8]) -> i32
     ensures { called result state.new table.now out.new ≡ racp_at state.old table.now write.now out.old }
 {
-    let reply = record_access(clock_of(state), table, write, out);
-    settle(state, reply)
+    let mut clock = clock_of(state);
+    let answer = record_access(&mut clock, table, write, out);
+    settle(state, clock, answer)
 }
 
 // The next notification of the running report, of up to p bytes. Refuses: 1, 2 whole, 3, 8. Answers its
@@ -39,6 +42,7 @@ pub fn racp_at(state: &mut [u8], table: &[u8], write: &[u8], out: &mut [u8]) -> 
 pub fn notify_at(state: &mut [u8], table: &[u8], p: u32, out: &mut [u8]) -> i32
     ensures { called result state.new table.now out.new ≡ notify_at state.old table.now p out.old }
 {
-    let said = reply_of(notify(clock_of(state), table, p, out));
-    settle(state, said)
+    let mut clock = clock_of(state);
+    let said = notify(&mut clock, table, p, out);
+    settle(state, clock, length_of(said))
 }

@@ -11,22 +11,25 @@ use state_bytes::state::clock_of;
 pub fn seconds_at(state: &mut [u8], n: u32) -> i32
     ensures { ran result state.new ≡ seconds_at state.old n }
 {
-    let event = seconds(clock_of(state), n);
-    settle_event(state, event)
+    let mut clock = clock_of(state);
+    let answer = seconds(&mut clock, n);
+    settle_event(state, clock, answer)
 }
 
 // The three switches; any value but 0 is on. Refuses: 2.
 pub fn switches_at(state: &mut [u8], dtcp: u8, racp: u8, log: u8) -> i32
     ensures { ran result state.new ≡ switches_at state.old dtcp racp log }
 {
-    let event = switches(clock_of(state), dtcp > 0, racp > 0, log > 0);
-    settle_event(state, event)
+    let mut clock = clock_of(state);
+    let answer = switches(&mut clock, dtcp > 0, racp > 0, log > 0);
+    settle_event(state, clock, answer)
 }
 
 // All switches off, a running report ends. Refuses: 2.
 pub fn disconnect_at(state: &mut [u8]) -> i32
     ensures { ran result state.new ≡ disconnect_at state.old }
 {
-    let event = disconnect(clock_of(state));
-    settle_event(state, event)
+    let mut clock = clock_of(state);
+    let answer = disconnect(&mut clock);
+    settle_event(state, clock, answer)
 }

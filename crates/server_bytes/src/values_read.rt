@@ -10,25 +10,19 @@ use state_bytes::state::clock_of;
 pub fn device_time_at(state: &[u8], table: &[u8], out: &mut [u8]) -> i32
     ensures { shown result out.new ≡ device_time_at state.now table.now out.old }
 {
-    let reply = device_time(clock_of(state), table, out);
-    let answer = reply.answer;
-    result_of(answer, reply.len)
+    result_of(device_time(clock_of(state), table, out))
 }
 
 // Device Time Feature. Refuses: 3.
 pub fn feature_at(out: &mut [u8]) -> i32
     ensures { shown result out.new ≡ feature_at out.old }
 {
-    let value = feature(out);
-    let answer = value.answer;
-    result_of(answer, value.len)
+    result_of(feature(out))
 }
 
 // Device Time Parameters. Refuses: 3.
 pub fn parameters_at(out: &mut [u8]) -> i32
     ensures { shown result out.new ≡ parameters_at out.old }
 {
-    let told = parameters(out);
-    let answer = told.answer;
-    result_of(answer, told.len)
+    result_of(parameters(out))
 }

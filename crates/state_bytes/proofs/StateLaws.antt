@@ -1,28 +1,30 @@
 -- The clock state's bytes: how they are laid down, and when bytes are an image.
 -- Assumes nothing.
 use mathlib.Core.Path.{◌≡◌, refl, sym, ap, ◌∙◌}
-use mathlib.Core.Bool.{Bool, true, false}
+use mathlib.Core.Bool.{Bool, true, false, not}
 use mathlib.Core.List.{List, [], ◌∷◌, ◌++◌}
 use Prim.Native.Nat.{ℕ}
+use Rattle.std.specs.Cmp.Lexicographic.{pointwise}
+use Rattle.std.specs.Prelude.{◌&&◌}
 use borrow.Author.Tests.{eq-eqb, ne_eqb, eqb-true}
 use lib.Dec.{eqb}
 use lib.ListN.{length}
 use Rattle.octets.specs.Numbers.{bytes2, bytes4}
+use Rattle.octets.specs.Choice.{both}
 use Rattle.octets.proofs.Tests.{both_yes, both_no, both_reads, clash}
 use Rattle.rules.specs.Fields.{base_b}
 use Rattle.clock.specs.Events.{with_base}
 use Rattle.clock.specs.Obeys.{time_b, clock_b}
 use Rattle.clock.specs.State.{new_reader}
 use Rattle.clock.specs.declared.state.Clock.{Clock}
-use Rattle.clock.specs.declared.state.Left.TheVariants.{Nothing}
 use Rattle.clock.specs.declared.state.Report.{Report}
-use Rattle.clock.specs.declared.state.Running.TheVariants.{Idle, Reporting}
 use Rattle.octets.specs.Parts.{same_b}
 use Rattle.state_bytes.specs.State.{state_bytes, switches_of, bounds, bounds_of, unsent_of, fields, fields_of, field_bytes, image_of, clock_in, image_b, no_clock, clock_of}
 use Rattle.state_bytes.specs.declared.state.Bounds.{Bounds}
 use Rattle.state_bytes.specs.declared.state.Fields.{Fields}
 use Rattle.state_bytes.specs.declared.state.Unsent.{Unsent}
 use Rattle.octets.proofs.SameLaws.{same_reads}
+use Rattle.std.proofs.Common.{None, Some}
 
 pub image_laid : (c : Clock) {f : Fields} {w : ℕ} → f ≡ fields_of c.running → w ≡ switches_of c.switches.dtcp c.switches.racp c.switches.log
     → bytes4 c.time.base
@@ -35,12 +37,12 @@ unfolding image_of
 image_laid c e d = rw (e, d)
 
 -- the report's fields, part by part
-pub fields_idle : {b : Bounds} {u : Unsent} → b ≡ bounds 0 0 0 → u ≡ unsent_of Nothing → fields 0 b 0 u ≡ fields_of Idle
+pub fields_idle : {b : Bounds} {u : Unsent} → b ≡ bounds 0 0 0 → u ≡ unsent_of None → fields 0 b 0 u ≡ fields_of None
 unfolding fields_of unsent_of
 fields_idle e d = rw (e, d)
 
 pub fields_report : (r : Report) {b : Bounds} {u : Unsent} → b ≡ bounds_of r.filter → u ≡ unsent_of r.left
-    → fields r.opcode b r.counter u ≡ fields_of (Reporting r)
+    → fields r.opcode b r.counter u ≡ fields_of (Some r)
 unfolding fields_of
 fields_report r e d = rw (e, d)
 
@@ -52,6 +54,26 @@ of_none s h = rw h
 pub of_image : (s : List ℕ) → image_b s ≡ true → clock_of s ≡ clock_in s
 unfolding clock_of
 of_image s h = rw h
+
+-- two byte strings compared by `==`
+pub same_compared : (a b : List ℕ) → same_b a b ≡ pointwise eqb a b
+unfolding same_b
+same_compared [] [] = refl
+same_compared [] (y ∷ b) = refl
+same_compared (x ∷ a) [] = refl
+same_compared (x ∷ a) (y ∷ b) = rw (same_compared a b) (step (eqb x y) (pointwise eqb a b))
+  where
+    step : (p q : Bool) → both p q ≡ p && q
+    step true q = refl
+    step false q = refl
+
+pub differs : (b : Bool) → not b ≡ true → b ≡ false
+differs true h = sym h
+differs false h = refl
+
+pub differs_not : (b : Bool) → not b ≡ false → b ≡ true
+differs_not true h = refl
+differs_not false h = sym h
 
 -- the answers of `clock_of`, with what it read and wrote on the way
 module _ (s : List ℕ) where

@@ -1,5 +1,5 @@
 -- The clock state as bytes, for a caller that keeps it in a buffer between calls. "One encoding per state, unused fields 0."
-use Rattle.std.specs.Prelude.{Bool, true, false, List, [], ◌∷◌, ◌++◌, ℕ, ◌+◌, ◌/◌, ◌%◌, eqb, length}
+use Rattle.std.specs.Prelude.{Bool, true, false, List, [], ◌∷◌, ◌++◌, ℕ, ◌+◌, ◌/◌, ◌%◌, eqb, length, None, Option, Some}
 use Rattle.octets.specs.Choice.{both, pick}
 use Rattle.octets.specs.Numbers.{at, le16, le32, bytes2, bytes4}
 use Rattle.octets.specs.Parts.{same_b}
@@ -9,13 +9,10 @@ use Rattle.filter.specs.declared.filter.Filter.TheVariants.{All, AtMost, AtLeast
 use Rattle.clock.specs.Events.{with_base}
 use Rattle.clock.specs.State.{new_reader}
 use Rattle.clock.specs.declared.state.Clock.{Clock}
-use Rattle.clock.specs.declared.state.Left.{Left}
-use Rattle.clock.specs.declared.state.Left.TheVariants.{Nothing, From}
-use Rattle.clock.specs.declared.state.Running.{Running}
-use Rattle.clock.specs.declared.state.Running.TheVariants.{Idle, Reporting}
 use Rattle.state_bytes.specs.declared.state.Bounds.{Bounds}
 use Rattle.state_bytes.specs.declared.state.Fields.{Fields}
 use Rattle.state_bytes.specs.declared.state.Unsent.{Unsent}
+use Rattle.clock.specs.declared.state.Report.{Report}
 
 abbrev pub state_bytes : ℕ
 state_bytes = 32
@@ -44,17 +41,17 @@ bounds_of Last = bounds last_record 0 0
 abbrev pub unsent : ℕ → ℕ → ℕ → Unsent
 unsent left next sent = record { left = left; next = next; sent = sent }
 
-unfoldable pub unsent_of : Left → Unsent
-unsent_of Nothing = unsent 0 0 0
-unsent_of (From next sent) = unsent 1 next sent
+unfoldable pub unsent_of : Option (ℕ × ℕ) → Unsent
+unsent_of None = unsent 0 0 0
+unsent_of (Some (next, sent)) = unsent 1 next sent
 
 -- bytes 17 to 27: the running report; opcode 0 and zeros where none is running
 abbrev pub fields : ℕ → Bounds → ℕ → Unsent → Fields
 fields opcode b counter u = record { opcode = opcode; bounds = b; counter = counter; unsent = u }
 
-unfoldable pub fields_of : Running → Fields
-fields_of Idle = fields 0 (bounds 0 0 0) 0 (unsent 0 0 0)
-fields_of (Reporting r) = fields r.opcode (bounds_of r.filter) r.counter (unsent_of r.left)
+unfoldable pub fields_of : Option Report → Fields
+fields_of None = fields 0 (bounds 0 0 0) 0 (unsent 0 0 0)
+fields_of (Some r) = fields r.opcode (bounds_of r.filter) r.counter (unsent_of r.left)
 
 unfoldable pub field_bytes : Fields → List ℕ
 field_bytes f =
@@ -88,13 +85,13 @@ filter_in operator min max =
     (pick (eqb operator last_record) Last
     All))))
 
-unfoldable pub left_in : ℕ → ℕ → ℕ → Left
-left_in left next sent = pick (eqb left 1) (From next sent) Nothing
+unfoldable pub left_in : ℕ → ℕ → ℕ → Option (ℕ × ℕ)
+left_in left next sent = pick (eqb left 1) (Some (next, sent)) None
 
-unfoldable pub running_in : List ℕ → Running
+unfoldable pub running_in : List ℕ → Option Report
 running_in s =
-    pick (eqb (at s 17) 0) Idle
-    (Reporting (record {
+    pick (eqb (at s 17) 0) None
+    (Some (record {
       opcode = at s 17;
       filter = filter_in (at s 18) (le16 s 19) (le16 s 21);
       counter = at s 23;

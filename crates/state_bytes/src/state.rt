@@ -1,9 +1,8 @@
 // The clock state as 32 bytes, little endian. A state has one encoding, with its unused fields 0.
 ghost use Rattle.std.specs.Prelude.{◌≡◌, ◌≤◌, length};
-ghost use Rattle.octets.specs.Parts.{same_b};
 ghost use Rattle.state_bytes.specs.State.{weight_if, switches_of, bounds, bounds_of, unsent_of, fields_of, image_of, filter_in, left_in, running_in, clock_in, no_clock, clock_of};
 
-use clock::state::{Clock, Left, Report, Running, Switches, Time, new_reader};
+use clock::state::{Clock, Report, Switches, Time, new_reader};
 use codes::racp::{ALL_RECORDS, AT_LEAST, AT_MOST, FIRST_RECORD, LAST_RECORD, WITHIN_RANGE};
 use filter::filter::Filter;
 use octets::numbers::{bytes2, bytes4, get16, get32};
@@ -11,7 +10,8 @@ use octets::numbers::{bytes2, bytes4, get16, get32};
 // The image's length.
 pub const STATE_BYTES: usize = 32;
 
-// A filter's operator and its values; 0 for a value that it has not.
+// The three structs below have a report's parts as the image's bytes have them, which C holds: numbers, and 0 for what there is not.
+// A filter's operator and its values.
 #[derive(Clone, Copy)]
 pub struct Bounds {
     pub operator: u8,
@@ -72,16 +72,17 @@ fn bounds_of(f: Filter) -> Bounds
     }
 }
 
-fn unsent_of(left: Left) -> Unsent
+#[tactic(auto, unfolding(crate::specs::State::unsent_of))]
+fn unsent_of(left: Option<(u16, u8)>) -> Unsent
     ensures { result ≡ unsent_of left }
 {
     match left {
-        Left::Nothing => Unsent {
+        None => Unsent {
             left: 0,
             next: 0,
             sent: 0,
         },
-        Left::From(next, sent) => Unsent {
+        Some((next, sent)) => Unsent {
             left: 1,
             next,
             sent,
@@ -89,17 +90,17 @@ fn unsent_of(left: Left) -> Unsent
     }
 }
 
-fn fields_of(running: Running) -> Fields
+fn fields_of(running: Option<Report>) -> Fields
     ensures { result ≡ fields_of running }
 {
     match running {
-        Running::Idle => Fields {
+        None => Fields {
             opcode: 0,
             bounds: bounds_at(0, 0, 0),
             counter: 0,
-            unsent: unsent_of(Left::Nothing),
+            unsent: unsent_of(None),
         },
-        Running::Reporting(report) => {
+        Some(report) => {
             let filter = report.filter;
             let left = report.left;
             Fields {
@@ -177,24 +178,24 @@ fn filter_in(operator: u8, minimum: u16, maximum: u16) -> Filter
     }
 }
 
-fn left_in(left: u8, next: u16, sent: u8) -> Left
+fn left_in(left: u8, next: u16, sent: u8) -> Option<(u16, u8)>
     ensures { result ≡ left_in left next sent }
 {
     match left {
-        1 => Left::From(next, sent),
-        _ => Left::Nothing,
+        1 => Some((next, sent)),
+        _ => None,
     }
 }
 
-fn running_in(s: &[u8]) -> Running
+fn running_in(s: &[u8]) -> Option<Report>
     requires { length s.now ≡ 32 }
     ensures { result ≡ running_in s.now }
 {
     let opcode = s[17];
     if opcode == 0 {
-        return Running::Idle;
+        return None;
     }
-    Running::Reporting(Report {
+    Some(Report {
         opcode,
         filter: filter_in(s[18], get16(s, 19), get16(s, 21)),
         counter: s[23],
@@ -229,20 +230,6 @@ fn clock_in(s: &[u8]) -> Clock
     }
 }
 
-fn same(a: &[u8], b: &[u8]) -> bool
-    requires { length a.now ≡ length b.now }
-    ensures { result ≡ same_b a.now b.now }
-{
-    let mut i = 0;
-    while i < a.len() {
-        if a[i] != b[i] {
-            return false;
-        }
-        i += 1;
-    }
-    true
-}
-
 // What bytes that are no image stand for: a new reader whose Base_Time is 0, which breaks a rule.
 fn no_clock() -> Clock
     ensures { result ≡ no_clock }
@@ -262,7 +249,7 @@ pub fn clock_of(s: &[u8]) -> Clock
     }
     let c = clock_in(s);
     let image = image_of(c);
-    if !same(s, &image) {
+    if s != image.as_slice() {
         return no_clock();
     }
     c

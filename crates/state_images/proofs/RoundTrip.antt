@@ -12,16 +12,14 @@ use Rattle.filter.specs.declared.filter.Filter.{Filter}
 use Rattle.filter.specs.declared.filter.Filter.TheVariants.{All, AtMost, AtLeast, Range, First, Last}
 use Rattle.clock.specs.Obeys.{opcode_b, running_b, clock_b}
 use Rattle.clock.specs.declared.state.Clock.{Clock}
-use Rattle.clock.specs.declared.state.Left.{Left}
-use Rattle.clock.specs.declared.state.Left.TheVariants.{Nothing, From}
-use Rattle.clock.specs.declared.state.Running.{Running}
-use Rattle.clock.specs.declared.state.Running.TheVariants.{Idle, Reporting}
 use Rattle.clock.proofs.RuleLaws.{clock_reads, running_reads}
 use Rattle.octets.specs.Parts.{same_b}
 use Rattle.state_bytes.specs.State.{state_bytes, switches_of, bounds_of, unsent_of, fields_of, field_bytes, image_of, filter_in, left_in, running_in, clock_in, image_b}
 use Rattle.state_images.specs.Theorems.{FilterFits, LeftFits, RunningFits, Fits, StateImages}
 use Rattle.octets.proofs.SameLaws.{same_makes}
 use Rattle.state_bytes.proofs.StateLaws.{of_image, image_back, no_image_lem}
+use Rattle.clock.specs.declared.state.Report.{Report}
+use Rattle.std.proofs.Common.{None, Option, Some}
 
 -- a number's two bytes joined again
 abbrev joined : ℕ → ℕ
@@ -37,10 +35,10 @@ filter_back (Range min max) h = rw (two min h.0, two max h.1)
 filter_back First h = refl
 filter_back Last h = refl
 
-left_back : (l : Left) → LeftFits l → left_in (unsent_of l).left (joined (unsent_of l).next) (unsent_of l).sent ≡ l
+left_back : (l : Option (ℕ × ℕ)) → LeftFits l → left_in (unsent_of l).left (joined (unsent_of l).next) (unsent_of l).sent ≡ l
 unfolding left_in unsent_of
-left_back Nothing h = refl
-left_back (From next sent) h = rw (two next h)
+left_back None h = refl
+left_back (Some (next, sent)) h = rw (two next h)
 
 -- an opcode that may run is not 0
 opcode_runs : (o : ℕ) → opcode_b o ≡ true → eqb o 0 ≡ false
@@ -51,9 +49,9 @@ running_back : (c : Clock) → RunningFits c.running → running_b c.running ≡
 unfolding running_in image_of field_bytes fields_of
 running_back c h ok = go c.running refl h ok
   where
-    go : (r : Running) → c.running ≡ r → RunningFits r → running_b r ≡ true → running_in (image_of c) ≡ r
-    go Idle e h ok = rw e
-    go (Reporting r) e h ok =
+    go : (r : Option Report) → c.running ≡ r → RunningFits r → running_b r ≡ true → running_in (image_of c) ≡ r
+    go None e h ok = rw e
+    go (Some r) e h ok =
         simp (e, opcode_runs r.opcode (running_reads r ok).opcode, filter_back r.filter h.0, left_back r.left h.1)
 
 record Switches (a b d : Bool) (n : ℕ) : Type 0 where

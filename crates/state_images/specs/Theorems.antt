@@ -1,18 +1,15 @@
 -- What is promised of the images beyond each call's own equation.
-use Rattle.std.specs.Prelude.{◌≡◌, true, false, List, ℕ, ◌<◌, length, replicate}
+use Rattle.std.specs.Prelude.{◌≡◌, true, false, List, ℕ, ◌<◌, length, replicate, None, Option, Some}
 use Rattle.filter.specs.declared.filter.Filter.{Filter}
 use Rattle.filter.specs.declared.filter.Filter.TheVariants.{All, AtMost, AtLeast, Range, First, Last}
 use Rattle.clock.specs.Obeys.{clock_b}
 use Rattle.clock.specs.declared.state.Clock.{Clock}
-use Rattle.clock.specs.declared.state.Left.{Left}
-use Rattle.clock.specs.declared.state.Left.TheVariants.{Nothing, From}
-use Rattle.clock.specs.declared.state.Running.{Running}
-use Rattle.clock.specs.declared.state.Running.TheVariants.{Idle, Reporting}
 use Rattle.record.specs.Fields.{most_bytes}
 use Rattle.joining.specs.Joining.{empty_joining}
 use Rattle.joining.specs.declared.joining.Joining.{Joining}
 use Rattle.state_bytes.specs.State.{state_bytes, image_of, clock_in, image_b, clock_of}
 use Rattle.state_bytes.specs.JoiningState.{joining_bytes, joining_image, joining_in}
+use Rattle.clock.specs.declared.state.Report.{Report}
 
 -- Each field fits its width. The types in the code say so of every clock there.
 abbrev pub FilterFits : Filter → Type 0
@@ -23,13 +20,13 @@ FilterFits (Range min max) = (min < 65536) × (max < 65536)
 FilterFits First = Unit {0}
 FilterFits Last = Unit {0}
 
-abbrev pub LeftFits : Left → Type 0
-LeftFits Nothing = Unit {0}
-LeftFits (From next sent) = next < 65536
+abbrev pub LeftFits : Option (ℕ × ℕ) → Type 0
+LeftFits None = Unit {0}
+LeftFits (Some (next, sent)) = next < 65536
 
-abbrev pub RunningFits : Running → Type 0
-RunningFits Idle = Unit {0}
-RunningFits (Reporting r) = FilterFits r.filter × LeftFits r.left
+abbrev pub RunningFits : Option Report → Type 0
+RunningFits None = Unit {0}
+RunningFits (Some r) = FilterFits r.filter × LeftFits r.left
 
 pub record Fits (c : Clock) : Type 0 where
   pub base : c.time.base < 4294967296

@@ -12,11 +12,12 @@ use Rattle.record_read.proofs.FormLaws.{is_update, is_fault}
 use Rattle.record.specs.declared.kinds.Record.TheVariants.{TimeUpdate, TimeFault}
 use Rattle.record.specs.declared.kinds.Record.{Record}
 use Rattle.keep.specs.Keep.{Keeping, keeping, keep_of, keeping_number}
-use Rattle.keep.specs.declared.keep.Kept.{Kept}
 use Rattle.carry.specs.Stamp.{carry_of, carrying_number}
-use Rattle.carry.specs.declared.stamp.Carried.{Carried}
 use Rattle.state_bytes.specs.Results.{refusal}
 use Rattle.tablet_bytes.specs.Calls.{fields_in, reading, read_at, kept_bytes, keep_at, carrying, stamp_after, carry_at}
+use Rattle.carry.specs.declared.stamp.CarryError.{CarryError}
+use Rattle.keep.specs.declared.keep.KeepError.{KeepError}
+use Rattle.std.proofs.Common.{Result}
 
 -- reading: refused, or a record of either type by its length
 module _ (b f : List ℕ) where
@@ -35,15 +36,15 @@ module _ (b f : List ℕ) where
   read_fault n h = read_record h (is_fault b n h)
 
 -- keeping: whatever it answers
-pub keep_told : (t b : List ℕ) {u : List ℕ} {r k : Kept} → keeping r u ≡ keep_of t b → r ≡ k
+pub keep_told : (t b : List ℕ) {u : List ℕ} {r k : Result (Unit {0}) KeepError} → keeping r u ≡ keep_of t b → r ≡ k
     → kept_bytes (refusal (keeping_number k)) u ≡ keep_at t b
 unfolding keep_at
 keep_told t b {u} e d =
-    ap (λ (x : Kept). kept_bytes (refusal (keeping_number x)) u) (sym d)
+    ap (λ (x : Result (Unit {0}) KeepError). kept_bytes (refusal (keeping_number x)) u) (sym d)
     ∙ ap (λ (x : Keeping). kept_bytes (refusal (keeping_number x.answer)) x.table) e
 
 -- carrying: whatever it answers
-pub carry_told : (stamp q : ℕ) (t : List ℕ) (y : ℤ) {r k : Carried} → r ≡ carry_of stamp q t → r ≡ k
+pub carry_told : (stamp q : ℕ) (t : List ℕ) (y : ℤ) {r k : Result ℤ CarryError} → r ≡ carry_of stamp q t → r ≡ k
     → carrying (refusal (carrying_number k)) (stamp_after y k) ≡ carry_at stamp q t y
 unfolding carry_at
-carry_told stamp q t y e d = ap (λ (x : Carried). carrying (refusal (carrying_number x)) (stamp_after y x)) (sym d ∙ e)
+carry_told stamp q t y e d = ap (λ (x : Result ℤ CarryError). carrying (refusal (carrying_number x)) (stamp_after y x)) (sym d ∙ e)

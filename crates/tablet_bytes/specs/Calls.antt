@@ -1,11 +1,8 @@
 -- The tablet's calls: joining over its state's image, reading into eleven numbers, keeping in a table, carrying.
-use Rattle.std.specs.Prelude.{List, [], ◌∷◌, ℕ, eqb, ℤ, pos, length, replicate}
+use Rattle.std.specs.Prelude.{List, [], ◌∷◌, ℕ, eqb, ℤ, pos, length, replicate, Err, None, Ok, Option, Result, Some}
 use Rattle.octets.specs.Choice.{pick}
 use Rattle.record_read.specs.Reading.{read_of}
 use Rattle.record_read.specs.Reading as wellFormed
-use Rattle.record.specs.declared.kinds.Reading.{Reading}
-use Rattle.record.specs.declared.kinds.Reading.TheVariants.{Is}
-use Rattle.record.specs.declared.kinds.Reading.TheVariants as readings
 use Rattle.record.specs.declared.kinds.Record.{Record}
 use Rattle.record.specs.declared.kinds.Record.TheVariants.{TimeUpdate, TimeFault}
 use Rattle.joining.specs.Joining.{join_of, joining_number}
@@ -15,10 +12,10 @@ use Rattle.joining.specs.declared.joining.Joined.{Joined}
 use Rattle.keep.specs.Keep.{keep_of, keeping_number}
 use Rattle.carry.specs.Stamp.{carry_of}
 use Rattle.carry.specs.Stamp as carry
-use Rattle.carry.specs.declared.stamp.Carried.{Carried}
-use Rattle.carry.specs.declared.stamp.Carried.TheVariants.{To, TableNotSound, NotHeld, FaultAmong}
 use Rattle.state_bytes.specs.JoiningState.{joining_bytes, joining_image, joining_in}
 use Rattle.state_bytes.specs.Results.{refusal}
+use Rattle.carry.specs.declared.stamp.CarryError.{CarryError}
+use Rattle.carry.specs.declared.stamp.CarryError.TheVariants.{FaultAmong, NotHeld, TableNotSound}
 
 -- "0 more to come, 1 to 45: a whole record of that length stands in joining"
 abbrev pub join_result : Answer → ℕ → ℤ
@@ -60,9 +57,9 @@ abbrev pub reading : ℤ → List ℕ → ReadNumbers
 reading z f = record { result = z; fields = f }
 
 -- the record's numbers, or those that stood there
-abbrev pub numbers_after : List ℕ → Reading → List ℕ
-numbers_after f (Is r) = fields_in r
-numbers_after f readings.Refused = f
+abbrev pub numbers_after : List ℕ → Option Record → List ℕ
+numbers_after f (Some r) = fields_in r
+numbers_after f None = f
 
 unfoldable pub read_at : List ℕ → List ℕ → ReadNumbers
 read_at b f = reading (refusal (wellFormed.reading_number (read_of b))) (numbers_after f (read_of b))
@@ -87,11 +84,9 @@ abbrev pub carrying : ℤ → ℤ → CarriedTo
 carrying z y = record { result = z; carried = y }
 
 -- the stamp that was carried, or the number that stood there
-abbrev pub stamp_after : ℤ → Carried → ℤ
-stamp_after y (To z) = z
-stamp_after y TableNotSound = y
-stamp_after y NotHeld = y
-stamp_after y FaultAmong = y
+abbrev pub stamp_after : ℤ → Result ℤ CarryError → ℤ
+stamp_after y (Ok z) = z
+stamp_after y (Err why) = y
 
 unfoldable pub carry_at : ℕ → ℕ → List ℕ → ℤ → CarriedTo
 carry_at stamp q t y = carrying (refusal (carry.carrying_number (carry_of stamp q t))) (stamp_after y (carry_of stamp q t))

@@ -1,11 +1,14 @@
 // The tablet's calls: joining, reading, keeping, carrying.
 ghost use Rattle.std.specs.Prelude.{◌≡◌};
+ghost use Rattle.carry.specs.Stamp.{carrying_number};
+ghost use Rattle.keep.specs.Keep.{keeping_number};
+ghost use Rattle.state_bytes.specs.Results.{refusal};
 ghost use Rattle.tablet_bytes.specs.Calls.{joined, join_at, reading, read_at, kept_bytes, keep_at, carrying, carry_at};
 
 use crate::join::{JOINING_BYTES, join_state};
 use crate::read::{fault_fields, update_fields};
-use carry::stamp::{Carried, carry};
-use keep::keep::{Kept, keep};
+use carry::stamp::{CarryError, carry};
+use keep::keep::{KeepError, keep};
 use octets::parts::clear;
 use record_read::reading::{fault_formed, update_formed};
 use record_write::places::{FAULT_BYTES, UPDATE_BYTES};
@@ -44,15 +47,35 @@ pub fn read_at(bytes: &[u8], fields: &mut [u32; 11]) -> i32
     0
 }
 
+#[tactic(auto, unfolding(keep::specs::Keep::keeping_number))]
+fn keep_refusal(why: KeepError) -> i32
+    ensures { result ≡ refusal (keeping_number (Err why)) }
+{
+    match why {
+        KeepError::TableNotSound => -1,
+        KeepError::NotARecord => -11,
+        KeepError::DoesNotFollow => -23,
+    }
+}
+
 // A record's bytes kept in the tablet's own copy of a log. Refuses: 1, 11, 23.
 pub fn keep_at(table: &mut [u8], bytes: &[u8]) -> i32
     ensures { kept_bytes result table.new ≡ keep_at table.old bytes.now }
 {
     match keep(table, bytes) {
-        Kept::Done => 0,
-        Kept::TableNotSound => -1,
-        Kept::NotARecord => -11,
-        Kept::DoesNotFollow => -23,
+        Ok(()) => 0,
+        Err(why) => keep_refusal(why),
+    }
+}
+
+#[tactic(auto, unfolding(carry::specs::Stamp::carrying_number))]
+fn carry_refusal(why: CarryError) -> i32
+    ensures { result ≡ refusal (carrying_number (Err why)) }
+{
+    match why {
+        CarryError::TableNotSound => -1,
+        CarryError::NotHeld => -12,
+        CarryError::FaultAmong => -13,
     }
 }
 
@@ -61,12 +84,10 @@ pub fn carry_at(stamp: u32, q: u16, table: &[u8], carried: &mut i64) -> i32
     ensures { carrying result carried.new ≡ carry_at stamp q table.now carried.old }
 {
     match carry(stamp, q, table) {
-        Carried::To(to) => {
+        Ok(to) => {
             *carried = to;
             0
         }
-        Carried::TableNotSound => -1,
-        Carried::NotHeld => -12,
-        Carried::FaultAmong => -13,
+        Err(why) => carry_refusal(why),
     }
 }

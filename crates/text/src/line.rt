@@ -6,7 +6,8 @@ ghost use Rattle.text.specs.Line.{text_of, fitted, decimal};
 
 use octets::parts::put;
 
-// A line of text that is built up by value: its first `len` bytes count.
+// A line of text that is built up by value: its first `len` bytes count. No `String`, since a library has no heap; and any `len`
+// is answered, so that whoever makes a line has nothing to show.
 #[derive(Clone, Copy)]
 pub struct Line {
     pub bytes: [u8; 96],
@@ -53,10 +54,8 @@ pub fn with_word(line: Line, word: &[u8]) -> Line
     ensures { text_of result ≡ fitted (text_of line ++ word.now) }
 {
     let mut longer = line;
-    let mut i = 0;
-    while i < word.len() {
-        longer = with_byte(longer, word[i]);
-        i += 1;
+    for byte in word {
+        longer = with_byte(longer, *byte);
     }
     longer
 }
@@ -65,8 +64,7 @@ pub fn with_word(line: Line, word: &[u8]) -> Line
 fn size(line: Line) -> usize
     ensures { result ≡ length (text_of line) }
 {
-    let len = line.len;
-    if len < 96 { len } else { 96 }
+    line.len.min(96)
 }
 
 // The line's text is laid over `out` from `at` on. Answers where it ends.

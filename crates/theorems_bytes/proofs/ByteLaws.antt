@@ -23,14 +23,9 @@ use Rattle.record_write.specs.Layout.{bytes_of}
 use Rattle.record_read.proofs.RoundTrip.{length_bytes}
 use Rattle.table.specs.Table.{count, held, age_of}
 use Rattle.clock.specs.State.{new_reader}
-use Rattle.clock.specs.Events.{with_base, disconnected}
+use Rattle.clock.specs.Events.{with_base, disconnected, Event}
 use Rattle.clock.specs.Obeys.{opcode_b, running_b}
-use Rattle.clock.specs.declared.events.Event.{Event}
 use Rattle.clock.specs.declared.state.Clock.{Clock}
-use Rattle.clock.specs.declared.state.Left.{Left}
-use Rattle.clock.specs.declared.state.Left.TheVariants.{Nothing, From}
-use Rattle.clock.specs.declared.state.Running.{Running}
-use Rattle.clock.specs.declared.state.Running.TheVariants.{Idle, Reporting}
 use Rattle.clock.proofs.RuleLaws.{clock_reads, running_reads}
 use Rattle.clock.proofs.EventLaws.{Seconds, refuses_2, refuses_7, rises, Changed, changes, seconds_is, switches_is, disconnect_is}
 use Rattle.update_judge.specs.Proposal.{proposal_at}
@@ -50,6 +45,8 @@ use Rattle.theorems_reports.specs.Reach.{Good}
 use Rattle.theorems_reports.proofs.ReachLaws.{Turned, same, turns, access_turned, notify_turned}
 use Rattle.theorems_stamps.proofs.WriteLaws.{bytes_cons, bytes_nil}
 use Rattle.theorems_bytes.specs.Fitting.{ByteFields}
+use Rattle.clock.specs.declared.state.Report.{Report}
+use Rattle.std.proofs.Common.{None, Option, Some}
 
 -- "DST offset: 0, 2, 4, 8, or 255", "Source: 0 to 7"
 dst_byte : (d : ℕ) → dst_b d ≡ true → d < 256
@@ -103,22 +100,22 @@ sent_byte : (sent : ℕ) (l : List Record) → unsent_b sent l ≡ true → sent
 sent_byte sent [] h = absurd (clash false h refl)
 sent_byte sent (r ∷ l) h = omega (arith, ltb-true sent (length (bytes_of r)) h, length_bytes r)
 
-left_byte : (l : Left) → (unsent_of l).left < 256
+left_byte : (l : Option (ℕ × ℕ)) → (unsent_of l).left < 256
 unfolding unsent_of
-left_byte Nothing = omega arith
-left_byte (From n s) = omega arith
+left_byte None = omega arith
+left_byte (Some (n, s)) = omega arith
 
-left_sent : (t : List ℕ) (f : Filter) (l : Left) → left_b t f l ≡ true → (unsent_of l).sent < 256
+left_sent : (t : List ℕ) (f : Filter) (l : Option (ℕ × ℕ)) → left_b t f l ≡ true → (unsent_of l).sent < 256
 unfolding unsent_of left_b
-left_sent t f Nothing h = omega arith
-left_sent t f (From n s) h =
+left_sent t f None h = omega arith
+left_sent t f (Some (n, s)) h =
     let a = both_reads (ltb (age_of t n) (count t)) _ h in
     let b = both_reads (matches_b f (count t) (age_of t n) n) _ a.1 in
     sent_byte s (drop (age_of t n) (held t)) b.1
 
-running_bytes : (t : List ℕ) (r : Running) → running_b r ≡ true → rows.running_whole_b t r ≡ true → Bytes (field_bytes (fields_of r))
+running_bytes : (t : List ℕ) (r : Option Report) → running_b r ≡ true → rows.running_whole_b t r ≡ true → Bytes (field_bytes (fields_of r))
 unfolding field_bytes fields_of rows.running_whole_b
-running_bytes t Idle h k =
+running_bytes t None h k =
     bytes_cons 0 _ (omega arith)
     (bytes_cons 0 _ (omega arith)
     (bytes_append (bytes2 0) _ (bytes_two 0)
@@ -126,7 +123,7 @@ running_bytes t Idle h k =
     (bytes_cons 0 _ (omega arith)
     (bytes_cons 0 _ (omega arith)
     (bytes_append (bytes2 0) _ (bytes_two 0) (bytes_cons 0 [] (omega arith) bytes_nil)))))))
-running_bytes t (Reporting r) h k =
+running_bytes t (Some r) h k =
     let x = running_reads r h in
     bytes_cons r.opcode _ (opcode_byte r.opcode x.opcode)
     (bytes_cons (bounds_of r.filter).operator _ (operator_byte r.filter)

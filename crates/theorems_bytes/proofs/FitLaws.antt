@@ -21,18 +21,11 @@ use Rattle.record.specs.declared.kinds.Record.TheVariants.{TimeUpdate, TimeFault
 use Rattle.record_write.specs.Layout.{update_read, fault_read, record_of}
 use Rattle.table.specs.Table.{count, oldest, held, age_of, slot, bytes_in, record_in, steps}
 use Rattle.table_look.specs.Matching.{next_match}
-use Rattle.table_look.specs.declared.matching.Found.{Found}
-use Rattle.table_look.specs.declared.matching.Found.TheVariants as found
 use Rattle.table_look.proofs.LookLaws.{drop_held, none_left}
 use Rattle.clock.specs.State.{new_reader}
-use Rattle.clock.specs.Events.{with_base, disconnected}
-use Rattle.clock.specs.declared.events.Event.{Event}
+use Rattle.clock.specs.Events.{with_base, disconnected, Event}
 use Rattle.clock.specs.declared.state.Clock.{Clock}
-use Rattle.clock.specs.declared.state.Left.{Left}
-use Rattle.clock.specs.declared.state.Left.TheVariants.{Nothing, From}
 use Rattle.clock.specs.declared.state.Report.{Report}
-use Rattle.clock.specs.declared.state.Running.{Running}
-use Rattle.clock.specs.declared.state.Running.TheVariants.{Idle, Reporting}
 use Rattle.clock.proofs.RuleLaws.{clock_reads}
 use Rattle.clock.proofs.EventLaws.{Seconds, refuses_2, refuses_7, rises, Changed, changes, seconds_is, switches_is, disconnect_is}
 use Rattle.update_decide.specs.Accept.{accepted_of}
@@ -46,10 +39,6 @@ use Rattle.update_logged.proofs.PromiseLaws.{logged, refused_unchanged}
 use Rattle.theorems_reports.proofs.GoodLaws.{new_good}
 use Rattle.racp_request.specs.Request.{opcode_in, operator_in, operand_bytes, typed_b, filter_at, filter_operand, asked_of, request_of}
 use Rattle.codes.specs.declared.response.Code.TheVariants.{InvalidOperator, OperatorNotSupported, InvalidOperand, OperandNotSupported}
-use Rattle.racp_request.specs.declared.request.Asked.{Asked}
-use Rattle.racp_request.specs.declared.request.Asked.TheVariants as asked
-use Rattle.racp_request.specs.declared.request.Request.{Request}
-use Rattle.racp_request.specs.declared.request.Request.TheVariants.{Report as ReportOf, Number, Abort, Refused}
 use Rattle.racp_request.proofs.RequestLaws.{report_reads}
 use Rattle.racp_access.specs.Report.{first_number, left_at, left_from}
 use Rattle.racp_access.specs.Access.{access_rows, accessed, begun_of, aborted_of, accessed_of}
@@ -61,6 +50,10 @@ use Rattle.theorems_reports.proofs.ReachLaws.{call_good}
 use Rattle.theorems_reports.proofs.AccessLaws.{left_refused, left_done}
 use Rattle.theorems_bytes.specs.Fitting.{WritesBytes, AllWriteBytes, FitsKept}
 use Rattle.theorems_bytes.proofs.ByteLaws.{image_bytes, new_bytes, call_bytes}
+use Rattle.codes.specs.declared.response.Code.{Code}
+use Rattle.racp_request.specs.declared.request.Request.{Request}
+use Rattle.racp_request.specs.declared.request.Request.TheVariants.{Abort, Number, Report as ReportOf}
+use Rattle.std.proofs.Common.{Err, None, Ok, Option, Result, Some}
 
 -- a record's number in a table of bytes
 record_small : (b : List ℕ) → Bytes b → sequence_of (record_of b) < 65536
@@ -89,9 +82,9 @@ left_fits : (f : Filter) (t : List ℕ) (k : ℕ) → Bytes t → LeftFits (left
 unfolding left_from left_at
 left_fits f t k h = go (next_match f t k)
   where
-    go : (x : Found) → LeftFits (left_at t x)
-    go found.Nothing = tt
-    go (found.At n) = number_small t n h
+    go : (x : Option ℕ) → LeftFits (left_at t x)
+    go None = tt
+    go (Some n) = number_small t n h
 
 -- a filter's values in a write of bytes
 filter_fits : (w : List ℕ) → Bytes w → FilterFits (filter_at w)
@@ -109,9 +102,9 @@ filter_fits w h =
     go false false false false true = tt
     go false false false false false = tt
 
-abbrev AskedFits : Asked → Type 0
-AskedFits (asked.For f) = FilterFits f
-AskedFits (asked.Refused k) = Unit {0}
+abbrev AskedFits : Result Filter Code → Type 0
+AskedFits (Ok f) = FilterFits f
+AskedFits (Err k) = Unit {0}
 
 asked_fits : (w : List ℕ) → Bytes w → AskedFits (asked_of w)
 unfolding asked_of filter_operand
@@ -125,14 +118,14 @@ asked_fits w h =
     go : (none null other size typed : Bool)
         → AskedFits
         (pick none
-        (asked.Refused InvalidOperator)
+        (Err InvalidOperator)
         (pick null
-        (asked.Refused InvalidOperator)
+        (Err InvalidOperator)
         (pick other
-        (asked.Refused OperatorNotSupported)
+        (Err OperatorNotSupported)
         (pick size
-        (pick typed (asked.For (filter_at w)) (asked.Refused OperandNotSupported))
-        (asked.Refused InvalidOperand)))))
+        (pick typed (Ok (filter_at w)) (Err OperandNotSupported))
+        (Err InvalidOperand)))))
     go true null other size typed = tt
     go false true other size typed = tt
     go false false true size typed = tt
@@ -140,7 +133,7 @@ asked_fits w h =
     go false false false true false = tt
     go false false false true true = filter_fits w h
 
-report_fits : (w : List ℕ) (f : Filter) → Bytes w → request_of w ≡ ReportOf f → FilterFits f
+report_fits : (w : List ℕ) (f : Filter) → Bytes w → request_of w ≡ Ok (ReportOf f) → FilterFits f
 report_fits w f h q = subst AskedFits (report_reads w f q).1 (asked_fits w h)
 
 -- the running report after each call
@@ -155,24 +148,24 @@ changed_running : (c after : Clock) (e : Event) → Changed c after e → Runnin
 changed_running c after e (refuses_2 h) x y = x
 changed_running c after e (changes h) x y = y
 
-begun_fits : (c : Clock) (opcode : ℕ) (f : Filter) (l : Left) → RunningFits c.running → FilterFits f → LeftFits l
+begun_fits : (c : Clock) (opcode : ℕ) (f : Filter) (l : Option (ℕ × ℕ)) → RunningFits c.running → FilterFits f → LeftFits l
     → RunningFits (begun_of c opcode f l).clock.running
 unfolding begun_of accessed
-begun_fits c opcode f Nothing x y z = x
-begun_fits c opcode f (From n s) x y z = (y, z)
+begun_fits c opcode f None x y z = x
+begun_fits c opcode f (Some (n, s)) x y z = (y, z)
 
-aborted_fits : (c : Clock) (r : Running) → RunningFits c.running → RunningFits (aborted_of c r).clock.running
+aborted_fits : (c : Clock) (r : Option Report) → RunningFits c.running → RunningFits (aborted_of c r).clock.running
 unfolding aborted_of accessed
-aborted_fits c Idle x = x
-aborted_fits c (Reporting r) x = tt
+aborted_fits c None x = x
+aborted_fits c (Some r) x = tt
 
-accessed_fits : (c : Clock) (t : List ℕ) (opcode : ℕ) (q : Request) → Bytes t → RunningFits c.running
-    → ((f : Filter) → q ≡ ReportOf f → FilterFits f) → RunningFits (accessed_of c t opcode q).clock.running
+accessed_fits : (c : Clock) (t : List ℕ) (opcode : ℕ) (q : Result Request Code) → Bytes t → RunningFits c.running
+    → ((f : Filter) → q ≡ Ok (ReportOf f) → FilterFits f) → RunningFits (accessed_of c t opcode q).clock.running
 unfolding accessed_of accessed
-accessed_fits c t opcode (ReportOf f) hb x h = begun_fits c opcode f (left_from f t 0) x (h f refl) (left_fits f t 0 hb)
-accessed_fits c t opcode (Number f) hb x h = x
-accessed_fits c t opcode Abort hb x h = aborted_fits c c.running x
-accessed_fits c t opcode (Refused k) hb x h = x
+accessed_fits c t opcode (Ok (ReportOf f)) hb x h = begun_fits c opcode f (left_from f t 0) x (h f refl) (left_fits f t 0 hb)
+accessed_fits c t opcode (Ok (Number f)) hb x h = x
+accessed_fits c t opcode (Ok Abort) hb x h = aborted_fits c c.running x
+accessed_fits c t opcode (Err k) hb x h = x
 
 access_fits : (v : World) (w o : List ℕ) → Bytes w → Bytes v.table → RunningFits v.clock.running
     → RunningFits (step_of v (record_access w o)).clock.running
@@ -191,21 +184,21 @@ after_fits : (f : Filter) (t : List ℕ) (q number sent : ℕ) (b : List ℕ) �
 unfolding left_after
 after_fits f t q number sent b hb h = go (last_b q sent b)
   where
-    go : (x : Bool) → LeftFits (pick x (left_from f t (age_of t number + 1)) (From number (sent + q)))
+    go : (x : Bool) → LeftFits (pick x (left_from f t (age_of t number + 1)) (Some (number, (sent + q))))
     go true = left_fits f t (age_of t number + 1) hb
     go false = h
 
-said_fits : (c : Clock) (t : List ℕ) (q : ℕ) (r : Report) (l : Left) → Bytes t → FilterFits r.filter → LeftFits l
+said_fits : (c : Clock) (t : List ℕ) (q : ℕ) (r : Report) (l : Option (ℕ × ℕ)) → Bytes t → FilterFits r.filter → LeftFits l
     → RunningFits (said_of c t q r l).clock.running
 unfolding said_of
-said_fits c t q r Nothing hb x y = tt
-said_fits c t q r (From number sent) hb x y = (x, after_fits r.filter t q number sent _ hb y)
+said_fits c t q r None hb x y = tt
+said_fits c t q r (Some (number, sent)) hb x y = (x, after_fits r.filter t q number sent _ hb y)
 
-notice_fits : (c : Clock) (t : List ℕ) (p : ℕ) (o : List ℕ) (r : Running) → Bytes t → RunningFits c.running → RunningFits r
+notice_fits : (c : Clock) (t : List ℕ) (p : ℕ) (o : List ℕ) (r : Option Report) → Bytes t → RunningFits c.running → RunningFits r
     → RunningFits (running_notice c t p o r).reply.clock.running
 unfolding running_notice noticed
-notice_fits c t p o Idle hb x y = x
-notice_fits c t p o (Reporting r) hb x y = said_fits c t (p - 1) r r.left hb y.0 y.1
+notice_fits c t p o None hb x y = x
+notice_fits c t p o (Some r) hb x y = said_fits c t (p - 1) r r.left hb y.0 y.1
 
 notify_fits : (c : Clock) (t : List ℕ) (p : ℕ) (o : List ℕ) → Bytes t → RunningFits c.running
     → RunningFits (notify_of c t p o).reply.clock.running

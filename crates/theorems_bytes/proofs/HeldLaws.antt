@@ -14,18 +14,18 @@ use Rattle.record_write.specs.Layout.{bytes_of, record_of}
 use Rattle.record_read.specs.Reading.{well_formed_b, read_of}
 use Rattle.record_read.proofs.RoundTrip.{write_back}
 use Rattle.record.specs.declared.kinds.Record.{Record}
-use Rattle.record.specs.declared.kinds.Reading.TheVariants.{Is}
 use Rattle.table.specs.Table.{count, oldest, next_slot, after, first, slot, bytes_in, record_in, slots, ring, held, slot_b, row_b, sound_b}
 use Rattle.table.proofs.HeadLaws.{sound_reads}
 use Rattle.table.proofs.RowLaws.{slot_reads}
 use Rattle.table_write.specs.Append.{newest}
 use Rattle.table_look.proofs.LookLaws.{drop_map}
 use Rattle.theorems_bytes.specs.Stamps.{held_in, same_rows_b}
+use Rattle.std.proofs.Common.{Some}
 
 -- a held slot's record, written, is the bytes in it
 slot_written : (s : List ℕ) → Bytes (bytes_in s) → well_formed_b (bytes_in s) ≡ true → bytes_in s ≡ bytes_of (record_in s)
 unfolding record_in read_of
-slot_written s hb h = let x : read_of (bytes_in s) ≡ Is (record_of (bytes_in s)) = rw h in sym (write_back (bytes_in s) (record_of (bytes_in s)) hb x)
+slot_written s hb h = let x : read_of (bytes_in s) ≡ Some (record_of (bytes_in s)) = rw h in sym (write_back (bytes_in s) (record_of (bytes_in s)) hb x)
 
 bytes_slot : (t : List ℕ) (o : ℕ) → Bytes t → Bytes (bytes_in (slot t o))
 unfolding bytes_in slot

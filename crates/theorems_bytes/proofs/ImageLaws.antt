@@ -15,11 +15,9 @@ use Rattle.octets.proofs.Tests.{clash}
 use Rattle.table.specs.Table.{size_b}
 use Rattle.table.proofs.HeadLaws.{size_reads, sound_head}
 use Rattle.table_write.specs.Start.{start_of}
-use Rattle.clock.specs.Answers.{number_of}
-use Rattle.clock.specs.Events.{seconds_of, switches_of, disconnect_of}
+use Rattle.clock.specs.Answers.{number_of, Answer}
+use Rattle.clock.specs.Events.{seconds_of, switches_of, disconnect_of, Event}
 use Rattle.theorems_clock.specs.Theorems as clocks
-use Rattle.clock.specs.declared.answers.Answer.{Answer}
-use Rattle.clock.specs.declared.events.Event.{Event}
 use Rattle.clock.specs.declared.state.Clock.{Clock}
 use Rattle.theorems_clock.proofs.PromiseLaws as clockLaws
 use Rattle.rows.specs.Reply.{Outcome, done_b}

@@ -14,13 +14,9 @@ use Rattle.octets.specs.Parts.{Bytes}
 use Rattle.octets.proofs.Tests.{clash, both_reads, both_yes}
 use Rattle.filter.specs.declared.filter.Filter.{Filter}
 use Rattle.record_read.specs.Reading as wellFormed
-use Rattle.record.specs.declared.kinds.Reading.{Reading}
-use Rattle.record.specs.declared.kinds.Reading.TheVariants.{Is}
 use Rattle.record.specs.declared.kinds.Record.{Record}
 use Rattle.table_look.specs.Matching.{matching}
-use Rattle.clock.specs.Answers.{number_of}
-use Rattle.clock.specs.declared.answers.Answer.{Answer}
-use Rattle.clock.specs.declared.answers.Answer.TheVariants.{Done, TableNotSound, ClockBroken, OutputShort, WriteLength, SwitchedOff, ReportRunning, PastTheEnd, NothingRunning}
+use Rattle.clock.specs.Answers.{number_of, Answer}
 use Rattle.rows.specs.Reply.{done_b}
 use Rattle.update.specs.Fault.{fault_of}
 use Rattle.clock.specs.Events.{disconnect_of}
@@ -52,6 +48,8 @@ use Rattle.theorems_bytes.specs.Reports.{heard_from, heard_at, hearing_at, GotAt
 use Rattle.theorems_bytes.specs.Stamps.{done_at}
 use Rattle.theorems_bytes.proofs.StampLaws.{done_result}
 use Rattle.theorems_bytes.proofs.ImageLaws.{one_call, Fit, call_fit, step_is, reached_fit, reached}
+use Rattle.std.proofs.Common.{Option, Some, Err, Ok}
+use Rattle.clock.specs.declared.answers.Refusal.TheVariants.{ClockBroken, NothingRunning, OutputShort, PastTheEnd, ReportRunning, SwitchedOff, TableNotSound, WriteLength}
 
 -- a notification by its result
 refused_heard : (a : Answer) (o : List ℕ) → done_b a ≡ false → heard_from (refusal (number_of a)) o ≡ nothing
@@ -214,7 +212,7 @@ calm_is (k ∷ ks) b h =
     both_yes (either_yes (all_calm_b (call_of k)) _ x.0) ∙ calm_is ks (step_at b k) x.1
 
 -- joining and reading
-abbrev pub numbers_of : List ℕ → Reading → ReadNumbers
+abbrev pub numbers_of : List ℕ → Option Record → ReadNumbers
 numbers_of e r = reading (refusal (wellFormed.reading_number r)) (numbers_after e r)
 
 abbrev pub got_of : List ℕ → Got → GotAt
@@ -242,7 +240,7 @@ joins_are e (n ∷ ns) j h =
 pub from_zeros : (e : List ℕ) (ns : List (List ℕ)) → join_all_at e (replicate joining_bytes 0) ns ≡ got_of e (join_all empty_joining ns)
 from_zeros e ns = ap (λ (j : List ℕ). join_all_at e j ns) (sym joining_images.zeros) ∙ joins_are e ns empty_joining empty_bytes
 
-pub read_all : (e : List ℕ) (l : List Record) → map (numbers_of e) (map Is l) ≡ map shown_of l
+pub read_all : (e : List ℕ) (l : List Record) → map (numbers_of e) (map Some l) ≡ map shown_of l
 read_all e [] = refl
 read_all e (r ∷ l) = ap (λ (x : List ReadNumbers). shown_of r ∷ x) (read_all e l)
 
@@ -261,15 +259,15 @@ hears_at e t w f h x =
 -- a result 0
 zero_reads : (a : Answer) (n : ℕ) → result_of a n ≡ pos 0 → (done_b a ≡ true) × (n ≡ 0)
 unfolding result_of done_b number_of
-zero_reads Done n h = (refl, ap nat_abs h)
-zero_reads TableNotSound n h = absurd (pos-ne-negsuc 0 _ (sym h))
-zero_reads ClockBroken n h = absurd (pos-ne-negsuc 0 _ (sym h))
-zero_reads OutputShort n h = absurd (pos-ne-negsuc 0 _ (sym h))
-zero_reads WriteLength n h = absurd (pos-ne-negsuc 0 _ (sym h))
-zero_reads SwitchedOff n h = absurd (pos-ne-negsuc 0 _ (sym h))
-zero_reads ReportRunning n h = absurd (pos-ne-negsuc 0 _ (sym h))
-zero_reads PastTheEnd n h = absurd (pos-ne-negsuc 0 _ (sym h))
-zero_reads NothingRunning n h = absurd (pos-ne-negsuc 0 _ (sym h))
+zero_reads (Ok done) n h = (refl, ap nat_abs h)
+zero_reads (Err TableNotSound) n h = absurd (pos-ne-negsuc 0 _ (sym h))
+zero_reads (Err ClockBroken) n h = absurd (pos-ne-negsuc 0 _ (sym h))
+zero_reads (Err OutputShort) n h = absurd (pos-ne-negsuc 0 _ (sym h))
+zero_reads (Err WriteLength) n h = absurd (pos-ne-negsuc 0 _ (sym h))
+zero_reads (Err SwitchedOff) n h = absurd (pos-ne-negsuc 0 _ (sym h))
+zero_reads (Err ReportRunning) n h = absurd (pos-ne-negsuc 0 _ (sym h))
+zero_reads (Err PastTheEnd) n h = absurd (pos-ne-negsuc 0 _ (sym h))
+zero_reads (Err NothingRunning) n h = absurd (pos-ne-negsuc 0 _ (sym h))
 
 pub accepted_is : (v : World) (w o : List ℕ) (hw : Bytes w) (f : Filter) → Fit v → AcceptedAt (image_in v) w o hw f → Accepted v w o f
 unfolding called_of said_of

@@ -19,10 +19,8 @@ use Rattle.record.specs.declared.kinds.Record.TheVariants.{TimeUpdate, TimeFault
 use Rattle.table.specs.Table.{slots_in, size_b, count, next, held}
 use Rattle.table_write.specs.Append.{newest}
 use Rattle.table_write.proofs.HistoryLaws.{length_held}
-use Rattle.clock.specs.Answers.{number_of}
+use Rattle.clock.specs.Answers.{number_of, Answer}
 use Rattle.clock.specs.Events.{seconds_of}
-use Rattle.clock.specs.declared.answers.Answer.{Answer}
-use Rattle.clock.specs.declared.answers.Answer.TheVariants.{Done, TableNotSound, ClockBroken, OutputShort, WriteLength, SwitchedOff, ReportRunning, PastTheEnd, NothingRunning}
 use Rattle.clock.specs.declared.state.Clock.{Clock}
 use Rattle.update_decide.specs.Accept.{update_record}
 use Rattle.codes.specs.Dtcp.{success}
@@ -37,9 +35,6 @@ use Rattle.characteristics.specs.Value.{device_time_bytes}
 use Rattle.characteristics.proofs.ValueLaws.{device_time_done}
 use Rattle.carry.specs.Stamp.{carry_of, no_fault_b}
 use Rattle.carry.specs.Stamp as carry
-use Rattle.carry.specs.declared.stamp.Carried.{Carried}
-use Rattle.carry.specs.declared.stamp.Carried.TheVariants.{To, NotHeld, FaultAmong}
-use Rattle.carry.specs.declared.stamp.Carried.TheVariants as carrieds
 use Rattle.state_bytes.specs.State.{state_bytes, image_of, clock_of}
 use Rattle.state_bytes.specs.Results.{refusal}
 use Rattle.state_images.proofs.RoundTrip.{state_images}
@@ -58,31 +53,35 @@ use Rattle.theorems_bytes.specs.World.{ByteWorld, ByteCall, seconds, switches, d
 use Rattle.theorems_bytes.specs.Stamps.{done_at, zero_at, ran_in, ran_at, success_at, logged_in, logged_at, faultless_b, held_in, same_rows_b, base_read, number_read, carried_at, all_held_at, HoldsLoggedAt, CarriesAt, CarriedStampAt}
 use Rattle.theorems_bytes.proofs.HeldLaws.{held_written, newest_written, same_rows, rows_itself, rows_differ}
 use Rattle.theorems_bytes.proofs.ImageLaws.{one_call, Fit, call_fit, new_fit, step_is, run_is, run_fit, reached_fit, reached, images}
+use Rattle.carry.specs.declared.stamp.CarryError.{CarryError}
+use Rattle.carry.specs.declared.stamp.CarryError.TheVariants as carries
+use Rattle.std.proofs.Common.{Err, Ok, Result}
+use Rattle.clock.specs.declared.answers.Refusal.TheVariants.{ClockBroken, NothingRunning, OutputShort, PastTheEnd, ReportRunning, SwitchedOff, TableNotSound, WriteLength}
 
 -- a result tells whether it is done
 pub done_result : (a : Answer) (n : ℕ) → done_at (result_of a n) ≡ done_b a
 unfolding result_of done_b number_of
-done_result Done n = refl
-done_result TableNotSound n = refl
-done_result ClockBroken n = refl
-done_result OutputShort n = refl
-done_result WriteLength n = refl
-done_result SwitchedOff n = refl
-done_result ReportRunning n = refl
-done_result PastTheEnd n = refl
-done_result NothingRunning n = refl
+done_result (Ok done) n = refl
+done_result (Err TableNotSound) n = refl
+done_result (Err ClockBroken) n = refl
+done_result (Err OutputShort) n = refl
+done_result (Err WriteLength) n = refl
+done_result (Err SwitchedOff) n = refl
+done_result (Err ReportRunning) n = refl
+done_result (Err PastTheEnd) n = refl
+done_result (Err NothingRunning) n = refl
 
 zero_result : (a : Answer) → zero_at (result_of a 0) ≡ done_b a
 unfolding result_of done_b number_of
-zero_result Done = refl
-zero_result TableNotSound = refl
-zero_result ClockBroken = refl
-zero_result OutputShort = refl
-zero_result WriteLength = refl
-zero_result SwitchedOff = refl
-zero_result ReportRunning = refl
-zero_result PastTheEnd = refl
-zero_result NothingRunning = refl
+zero_result (Ok done) = refl
+zero_result (Err TableNotSound) = refl
+zero_result (Err ClockBroken) = refl
+zero_result (Err OutputShort) = refl
+zero_result (Err WriteLength) = refl
+zero_result (Err SwitchedOff) = refl
+zero_result (Err ReportRunning) = refl
+zero_result (Err PastTheEnd) = refl
+zero_result (Err NothingRunning) = refl
 
 -- calls in a row, by value
 ran_append : (v : World) (a b : List Call) → ran_of v (a ++ b) ≡ ran_of v a + ran_of (run_of v a) b
@@ -224,23 +223,23 @@ module _ (v : World) (o : List ℕ) (f : Fit v) (room : 20 ≤ length o) where
   number_is = ap (λ (x : Shown). le16 x.output 8) time_is ∙ number_back v.clock (next v.table) o f.good.next
 
 -- what carrying gives, as its entry point hands it over
-abbrev handed : ℤ → Carried → CarriedTo
+abbrev handed : ℤ → Result ℤ CarryError → CarriedTo
 handed y r = carrying (refusal (carry.carrying_number r)) (stamp_after y r)
 
-zero_handed : (r : Carried) → zero_at (refusal (carry.carrying_number r)) ≡ eqb (carry.carrying_number r) 0
+zero_handed : (r : Result ℤ CarryError) → zero_at (refusal (carry.carrying_number r)) ≡ eqb (carry.carrying_number r) 0
 unfolding carry.carrying_number
-zero_handed (To z) = refl
-zero_handed carrieds.TableNotSound = refl
-zero_handed NotHeld = refl
-zero_handed FaultAmong = refl
+zero_handed (Ok z) = refl
+zero_handed (Err carries.TableNotSound) = refl
+zero_handed (Err carries.NotHeld) = refl
+zero_handed (Err carries.FaultAmong) = refl
 
 -- a result 0 is a stamp that was carried
-carried_to : (y : ℤ) (r : Carried) → refusal (carry.carrying_number r) ≡ pos 0 → r ≡ To (stamp_after y r)
+carried_to : (y : ℤ) (r : Result ℤ CarryError) → refusal (carry.carrying_number r) ≡ pos 0 → r ≡ Ok (stamp_after y r)
 unfolding carry.carrying_number
-carried_to y (To z) h = refl
-carried_to y carrieds.TableNotSound h = absurd (pos-ne-negsuc 0 _ (sym h))
-carried_to y NotHeld h = absurd (pos-ne-negsuc 0 _ (sym h))
-carried_to y FaultAmong h = absurd (pos-ne-negsuc 0 _ (sym h))
+carried_to y (Ok z) h = refl
+carried_to y (Err carries.TableNotSound) h = absurd (pos-ne-negsuc 0 _ (sym h))
+carried_to y (Err carries.NotHeld) h = absurd (pos-ne-negsuc 0 _ (sym h))
+carried_to y (Err carries.FaultAmong) h = absurd (pos-ne-negsuc 0 _ (sym h))
 
 -- the test by the records' bytes is that by value, and one of the counts
 module _ (v : World) (after : List ByteCall) (f : Fit v) where
@@ -288,7 +287,7 @@ module _ (v : World) (after : List ByteCall) (f : Fit v) where
       ∙ ap (λ (b : ByteWorld). leb (length (logged_at (image_in v) after)) (count b.table)) (sym (run_is after v f))
 
 module _ (v : World) (after : List ByteCall) (o p : List ℕ) (y : ℤ) (f : Fit v) (ro : 20 ≤ length o) (rp : 20 ≤ length p) where
-  abbrev by_value : Carried
+  abbrev by_value : Result ℤ CarryError
   by_value = stamps.carried_after carry_of v (calls_of after)
 
   carried_is : carried_at (image_in v) after o y ≡ handed y by_value

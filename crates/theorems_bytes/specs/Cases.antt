@@ -1,12 +1,9 @@
 -- Cases over bytes, run by the checker on the definitions that the entry points' promises cite.
-use Rattle.std.specs.Prelude.{◌≡◌, Bool, true, false, List, [], ◌∷◌, ◌++◌, ℕ, ℤ, pos, negsuc, replicate}
+use Rattle.std.specs.Prelude.{◌≡◌, Bool, true, false, List, [], ◌∷◌, ◌++◌, ℕ, ℤ, pos, negsuc, replicate, Option, Some}
 use Rattle.octets.specs.Numbers.{bytes2, bytes4}
 use Rattle.octets.specs.Parts.{Bytes, same_b}
 use Rattle.filter.specs.declared.filter.Filter.TheVariants.{AtMost}
 use Rattle.clock.specs.Answers.{number_of}
-use Rattle.clock.specs.declared.state.Left.TheVariants.{From}
-use Rattle.clock.specs.declared.state.Running.{Running}
-use Rattle.clock.specs.declared.state.Running.TheVariants.{Reporting}
 use Rattle.update.specs.TimeUpdate.{after_decision}
 use Rattle.characteristics.specs.Value.{device_time_bytes, device_time_of}
 use Rattle.state_bytes.specs.JoiningState.{joining_image, joining_in}
@@ -27,6 +24,7 @@ use Rattle.theorems_reports.specs.Open.{calls_open, joining_open}
 use Rattle.theorems_bytes.specs.World.{ByteCall, seconds, switches, disconnect, fault, dtcp_write, racp_write, notify, device_time, called_at, step_at, run_at, EntryCall, start, call, entered_at, enter_at, history_at, started_at}
 use Rattle.theorems_bytes.specs.Reports.{heard_at, hearing_at, GotAt, got_at, join_all_at}
 use Rattle.theorems_bytes.specs.Stamps.{ran_in, ran_at, logged_in, logged_at, faultless_b, held_in, same_rows_b, base_read, number_read, carried_at, all_held_at}
+use Rattle.clock.specs.declared.state.Report.{Report}
 
 -- the stamp and its number as read, the records that were logged after it, the theorem's two tests, what `dts_carry` gives where -1 stood;
 -- the clock then as read, and the seconds that ran
@@ -169,7 +167,7 @@ Named h a = heard_of (buffer 208) (on ∷ set h 800000000 ∷ set h 800000001 �
     }
 
 -- A write to the RACP that is no bytes, AtMost 65,536, makes a report whose filter does not fit its width: `WritesBytes` is needed.
-unfoldable pub running_after : List ℕ → List Call → Running
+unfoldable pub running_after : List ℕ → List Call → Option Report
 unfolding calls_open run_of
 running_after t ks = (run_of (new_world t) ks).clock.running
 
@@ -182,7 +180,7 @@ wide h =
 
 abbrev NeedsBytes : Writable → Type 0
 NeedsBytes h =
-    running_after (buffer 80) (wide h) ≡ Reporting (record { opcode = 1; filter = AtMost 65536; counter = 0; left = From 0 0 })
+    running_after (buffer 80) (wide h) ≡ Some (record { opcode = 1; filter = AtMost 65536; counter = 0; left = Some (0, 0) })
 
 pub record Computed : Type 0 where
   pub writable : Writable

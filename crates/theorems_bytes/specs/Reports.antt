@@ -1,6 +1,6 @@
 -- The theorems about reports (document 01, "RACP and notifications") as the C side sees them: of results, outputs and the tablet's 48 bytes
 -- alone.
-use Rattle.std.specs.Prelude.{◌≡◌, Bool, true, false, not, List, [], ◌∷◌, map, ℕ, ◌-◌, ◌≤◌, ◌<◌, ltb, eqb, ℤ, pos, negsuc, length, take, replicate}
+use Rattle.std.specs.Prelude.{◌≡◌, Bool, true, false, not, List, [], ◌∷◌, map, ℕ, ◌-◌, ◌≤◌, ◌<◌, ltb, eqb, ℤ, pos, negsuc, length, take, replicate, Ok}
 use Rattle.octets.specs.Choice.{both, either, pick}
 use Rattle.octets.specs.Numbers.{bytes2}
 use Rattle.octets.specs.Parts.{part, Bytes}
@@ -9,7 +9,6 @@ use Rattle.record.specs.declared.kinds.Record.{Record}
 use Rattle.table.specs.Table.{size_b}
 use Rattle.table_look.specs.Matching.{matching}
 use Rattle.racp_request.specs.Request.{opcode_in, request_of}
-use Rattle.racp_request.specs.declared.request.Request.TheVariants.{Report}
 use Rattle.racp_notify.specs.Notify.{room_b}
 use Rattle.state_bytes.specs.State.{state_bytes}
 use Rattle.state_bytes.specs.JoiningState.{joining_bytes}
@@ -19,6 +18,7 @@ use Rattle.theorems_reports.specs.Reports.{askings_b, long_b, segments, Exact}
 use Rattle.theorems_reports.specs.Closing.{heard_b, unless_closing, Closes}
 use Rattle.theorems_bytes.specs.World.{ByteWorld, ByteCall, seconds, switches, disconnect, fault, dtcp_write, racp_write, notify, device_time, called_at, step_at, EntryCall, history_at, started_at, call_of, calls_of}
 use Rattle.theorems_bytes.specs.Stamps.{done_at}
+use Rattle.racp_request.specs.declared.request.Request.TheVariants.{Report}
 
 -- a notification by its result: so many bytes of the output, "+ 256 where these bytes close the report"
 abbrev pub heard_from : ℤ → List ℕ → Heard
@@ -64,7 +64,7 @@ shown_of r = reading (pos 0) (fields_in r)
 
 -- a report that was accepted: the result is 0
 pub record AcceptedAt (b : ByteWorld) (w o : List ℕ) (hw : Bytes w) (f : Filter) : Type 0 where
-  pub asked : request_of w ≡ Report f
+  pub asked : request_of w ≡ Ok (Report f)
   pub zero : (called_at b (racp_write w o hw)).result ≡ pos 0
 
 -- However far a report came, no notification was refused, from a joining state of zeros; and once closed the numbers are those of exactly

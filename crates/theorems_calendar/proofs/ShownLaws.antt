@@ -21,11 +21,11 @@ use Rattle.table.specs.Table.{sound_b}
 use Rattle.table_look.proofs.KindLaws.{held_rules}
 use Rattle.calendar_dates.specs.Dates.{date_of_seconds}
 use Rattle.calendar_dates.specs.declared.dates.Date.{Date}
-use Rattle.calendar_dates.specs.declared.dates.Dated.TheVariants.{On, Outside}
 use Rattle.calendar_dates.proofs.DateLaws.{dated_outside}
 use Rattle.calendar_dates.proofs.LostLaws.{turns}
 use Rattle.calendar_local.specs.Local.{in_zone, local_of, local_date}
 use Rattle.calendar_local.proofs.LocalLaws.{in_east, in_west, zone_unknown, dst_unknown, both_known}
+use Rattle.std.proofs.Common.{Some, None}
 use Rattle.theorems_calendar.specs.Shown.{HeldIn, IsLocal}
 
 base_range : (b : ℕ) → base_b b ≡ true → (first_base_time ≤ b) × (b ≤ last_base_time)
@@ -38,7 +38,7 @@ rules_base (TimeUpdate u) h = (update_times u h).0
 rules_base (TimeFault f) h =
     let a = both_reads (both (status_b f.status) (status_b f.oldstatus)) _ (sym (fault_rules f) ∙ h) in (both_reads (base_b f.base) _ a.1).0
 
-pub clock_time : (t : List ℕ) (r : Record) → sound_b t ≡ true → HeldIn t r → (d : Date) × (date_of_seconds (base_of r) ≡ On d)
+pub clock_time : (t : List ℕ) (r : Record) → sound_b t ≡ true → HeldIn t r → (d : Date) × (date_of_seconds (base_of r) ≡ Some d)
 clock_time t r s h =
     let e = turns (base_of r) (base_range (base_of r) (rules_base r (held_rules t h.age r h.newer s h.here))).1 in (e.date, e.dated)
 
@@ -88,27 +88,27 @@ module _ (u : Update) (known : u.zone ≡ 128 → ⊥) (summer : u.dst ≡ 255 �
           let past = leb-false u.zone 56 e in local_west (base_range u.base rules.0).0 past (zone_west u.zone rules.1 known past)
 
 module _ (u : Update) (s : ℕ) (l : IsLocal u s) where
-  pub shown : s ≤ last_base_time → (d : Date) × (date_of_seconds s ≡ On d) × (local_date (local_of (TimeUpdate u)) ≡ On d)
+  pub shown : s ≤ last_base_time → (d : Date) × (date_of_seconds s ≡ Some d) × (local_date (local_of (TimeUpdate u)) ≡ Some d)
   unfolding local_date
   shown h = let e = turns s h in (e.date, e.dated, ap local_date l.local ∙ e.dated)
 
-  pub too_late : last_base_time < s → local_date (local_of (TimeUpdate u)) ≡ Outside
+  pub too_late : last_base_time < s → local_date (local_of (TimeUpdate u)) ≡ None
   unfolding local_date
   too_late h = ap local_date l.local ∙ dated_outside s h
 
 module _ (u : Update) where
-  pub no_zone : u.zone ≡ 128 → local_date (local_of (TimeUpdate u)) ≡ Outside
+  pub no_zone : u.zone ≡ 128 → local_date (local_of (TimeUpdate u)) ≡ None
   unfolding local_date local_of
   no_zone h = ap local_date (zone_unknown u.base u.zone u.dst h)
 
-  pub no_dst : u.dst ≡ 255 → local_date (local_of (TimeUpdate u)) ≡ Outside
+  pub no_dst : u.dst ≡ 255 → local_date (local_of (TimeUpdate u)) ≡ None
   unfolding local_date local_of
   no_dst h = by (eqb u.zone 128) refl
     where
-      by : (b : Bool) → eqb u.zone 128 ≡ b → local_date (local_of (TimeUpdate u)) ≡ Outside
+      by : (b : Bool) → eqb u.zone 128 ≡ b → local_date (local_of (TimeUpdate u)) ≡ None
       by true e = no_zone (eqb-true _ _ e)
       by false e = ap local_date (dst_unknown u.base u.zone u.dst (eqb-false _ _ e) h)
 
-pub no_fields : (f : Fault) → local_date (local_of (TimeFault f)) ≡ Outside
+pub no_fields : (f : Fault) → local_date (local_of (TimeFault f)) ≡ None
 unfolding local_date local_of
 no_fields f = refl

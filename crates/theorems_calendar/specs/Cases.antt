@@ -1,5 +1,5 @@
 -- Dates and lines worked out by hand (change request E4), computed on the definitions that the promises cite.
-use Rattle.std.specs.Prelude.{◌≡◌, List, [], ◌∷◌, ◌++◌, ℕ}
+use Rattle.std.specs.Prelude.{◌≡◌, Option, Some, None, List, [], ◌∷◌, ◌++◌, ℕ}
 use Rattle.record.specs.Fields.{sequence_of, type_of, base_of}
 use Rattle.record.specs.declared.kinds.Record.{Record}
 use Rattle.record.specs.declared.kinds.Record.TheVariants.{TimeUpdate, TimeFault}
@@ -8,10 +8,6 @@ use Rattle.list_text.specs.Listing.{refused_line, head_line}
 use Rattle.calendar_months.specs.Months.{leap_b, thirty_b, days_in, month_length, days_before}
 use Rattle.calendar_dates.specs.Dates.{day_from, day_after, date_on, date_of_seconds, month_b, day_b, time_of_day_b, exists_b, seconds_to, seconds_of_date}
 use Rattle.calendar_dates.specs.declared.dates.Date.{Date}
-use Rattle.calendar_dates.specs.declared.dates.Dated.{Dated}
-use Rattle.calendar_dates.specs.declared.dates.Dated.TheVariants.{On, Outside}
-use Rattle.calendar_dates.specs.declared.dates.Reckoned.{Reckoned}
-use Rattle.calendar_dates.specs.declared.dates.Reckoned.TheVariants.{Seconds, NoSuchDate}
 use Rattle.calendar_local.specs.Local.{in_zone, local_time, local_of, local_date}
 use Rattle.calendar_text.specs.Written.{date_text, dated_text, number_text}
 use Rattle.calendar_text.specs.Lines.{numbers_text, times_text, calendar_line}
@@ -24,41 +20,41 @@ date year month day hour minute second =
     record { year = year; month = month; day = day; hour = hour; minute = minute; second = second }
 
 -- the definitions laid open for the checker to compute
-unfoldable pub dated_open : ℕ → Dated
+unfoldable pub dated_open : ℕ → Option Date
 unfolding leap_b thirty_b days_in month_length day_from day_after date_on date_of_seconds
 dated_open s = date_of_seconds s
 
-unfoldable pub reckoned_open : Date → Reckoned
+unfoldable pub reckoned_open : Date → Option ℕ
 unfolding leap_b thirty_b days_in month_length days_before month_b day_b time_of_day_b exists_b seconds_to seconds_of_date
 reckoned_open d = seconds_of_date d
 
 pub record Dates : Type 0 where
   -- the paper's time, and the ends of the years and of Base_Time's range
-  pub paper : dated_open 800000000 ≡ On (date 2025 5 8 6 13 20)
-  pub first : dated_open 0 ≡ On (date 2000 1 1 0 0 0)
-  pub first_base : dated_open 631152000 ≡ On (date 2020 1 1 0 0 0)
-  pub last : dated_open 3155759999 ≡ On (date 2099 12 31 23 59 59)
-  pub after : dated_open 3155760000 ≡ Outside
+  pub paper : dated_open 800000000 ≡ Some (date 2025 5 8 6 13 20)
+  pub first : dated_open 0 ≡ Some (date 2000 1 1 0 0 0)
+  pub first_base : dated_open 631152000 ≡ Some (date 2020 1 1 0 0 0)
+  pub last : dated_open 3155759999 ≡ Some (date 2099 12 31 23 59 59)
+  pub after : dated_open 3155760000 ≡ None
   -- 2000 is a leap year, 2001 none
-  pub leap_day : dated_open 5097600 ≡ On (date 2000 2 29 0 0 0)
-  pub no_leap_day : dated_open 36720000 ≡ On (date 2001 3 1 0 0 0)
-  pub before_it : dated_open 36719999 ≡ On (date 2001 2 28 23 59 59)
+  pub leap_day : dated_open 5097600 ≡ Some (date 2000 2 29 0 0 0)
+  pub no_leap_day : dated_open 36720000 ≡ Some (date 2001 3 1 0 0 0)
+  pub before_it : dated_open 36719999 ≡ Some (date 2001 2 28 23 59 59)
   -- and back
-  pub paper_back : reckoned_open (date 2025 5 8 6 13 20) ≡ Seconds 800000000
-  pub last_back : reckoned_open (date 2099 12 31 23 59 59) ≡ Seconds 3155759999
-  pub leap_back : reckoned_open (date 2000 2 29 0 0 0) ≡ Seconds 5097600
+  pub paper_back : reckoned_open (date 2025 5 8 6 13 20) ≡ Some 800000000
+  pub last_back : reckoned_open (date 2099 12 31 23 59 59) ≡ Some 3155759999
+  pub leap_back : reckoned_open (date 2000 2 29 0 0 0) ≡ Some 5097600
   -- dates that do not exist
-  pub february_29 : reckoned_open (date 2001 2 29 0 0 0) ≡ NoSuchDate
-  pub february_30 : reckoned_open (date 2000 2 30 0 0 0) ≡ NoSuchDate
-  pub april_31 : reckoned_open (date 2025 4 31 0 0 0) ≡ NoSuchDate
-  pub day_0 : reckoned_open (date 2025 5 0 0 0 0) ≡ NoSuchDate
-  pub month_0 : reckoned_open (date 2025 0 8 0 0 0) ≡ NoSuchDate
-  pub month_13 : reckoned_open (date 2025 13 8 0 0 0) ≡ NoSuchDate
-  pub year_1999 : reckoned_open (date 1999 12 31 23 59 59) ≡ NoSuchDate
-  pub year_2100 : reckoned_open (date 2100 1 1 0 0 0) ≡ NoSuchDate
-  pub hour_24 : reckoned_open (date 2025 5 8 24 0 0) ≡ NoSuchDate
-  pub minute_60 : reckoned_open (date 2025 5 8 6 60 0) ≡ NoSuchDate
-  pub second_60 : reckoned_open (date 2025 5 8 6 13 60) ≡ NoSuchDate
+  pub february_29 : reckoned_open (date 2001 2 29 0 0 0) ≡ None
+  pub february_30 : reckoned_open (date 2000 2 30 0 0 0) ≡ None
+  pub april_31 : reckoned_open (date 2025 4 31 0 0 0) ≡ None
+  pub day_0 : reckoned_open (date 2025 5 0 0 0 0) ≡ None
+  pub month_0 : reckoned_open (date 2025 0 8 0 0 0) ≡ None
+  pub month_13 : reckoned_open (date 2025 13 8 0 0 0) ≡ None
+  pub year_1999 : reckoned_open (date 1999 12 31 23 59 59) ≡ None
+  pub year_2100 : reckoned_open (date 2100 1 1 0 0 0) ≡ None
+  pub hour_24 : reckoned_open (date 2025 5 8 24 0 0) ≡ None
+  pub minute_60 : reckoned_open (date 2025 5 8 6 60 0) ≡ None
+  pub second_60 : reckoned_open (date 2025 5 8 6 13 60) ≡ None
 
 -- a record's line, and a table's
 unfoldable pub line_open : Record → List ℕ

@@ -1,6 +1,6 @@
 -- What is promised of time updates beyond each call's own equation (document 01, "Time updates"): each ground by itself, all of them at
 -- once, and what a source that can't vouch for the time zone may do.
-use Rattle.std.specs.Prelude.{◌≡◌, true, false, List, [], ◌∷◌, ◌++◌, ℕ, ◌+◌, eqb}
+use Rattle.std.specs.Prelude.{◌≡◌, true, false, List, [], ◌∷◌, ◌++◌, ℕ, ◌+◌, eqb, Err, Ok}
 use Rattle.octets.specs.Choice.{pick}
 use Rattle.octets.specs.Numbers.{bytes2, bytes4}
 use Rattle.rules.specs.Fields.{aligned_bit, qualified_bit}
@@ -16,7 +16,7 @@ use Rattle.update_decide.specs.Accept.{accepted_of, update_record}
 use Rattle.update_decide.specs.Decide.{decide_of}
 use Rattle.theorems_calls.specs.UpdateCases.{f2}
 use Rattle.update_judge.specs.declared.proposal.Proposal.{Proposal}
-use Rattle.update_decide.specs.declared.decide.Decision.TheVariants.{Rejected, Taken}
+use Rattle.update_decide.specs.declared.decide.NotTaken.TheVariants.{Rejected}
 
 -- a proposal, and the write that brings it: flags, base, zone; DST 0, source 2 (GPS), accuracy 1
 abbrev proposal : ℕ → ℕ → ℕ → Proposal
@@ -29,16 +29,16 @@ write opcode f b z = (opcode ∷ bytes2 f) ++ (bytes4 b ++ (z ∷ 0 ∷ 2 ∷ 1 
 -- alone, and one that is taken, on the clock of case 2, at 800,000,100 with grade 3. What is asked of a Propose only is no ground
 -- against a Force.
 pub record GroundsAlone : Type 0 where
-  pub epoch : decide_of f2 (write propose_opcode 0x03 800000100 4) ≡ Rejected wrong_epoch
-  pub range : decide_of f2 (write propose_opcode 0x43 800000100 57) ≡ Rejected out_of_range
-  pub quality : decide_of f2 (write propose_opcode 0x41 800000100 4) ≡ Rejected lower_quality
-  pub realism : decide_of f2 (write propose_opcode 0x43 800086501 4) ≡ Rejected unrealistic
-  pub taken : decide_of f2 (write propose_opcode 0x43 800086500 4) ≡ Taken (proposal 0x43 800086500 4)
-  pub forced : decide_of f2 (write force_opcode 0x40 631152000 4) ≡ Taken (proposal 0x40 631152000 4)
+  pub epoch : decide_of f2 (write propose_opcode 0x03 800000100 4) ≡ Err (Rejected wrong_epoch)
+  pub range : decide_of f2 (write propose_opcode 0x43 800000100 57) ≡ Err (Rejected out_of_range)
+  pub quality : decide_of f2 (write propose_opcode 0x41 800000100 4) ≡ Err (Rejected lower_quality)
+  pub realism : decide_of f2 (write propose_opcode 0x43 800086501 4) ≡ Err (Rejected unrealistic)
+  pub taken : decide_of f2 (write propose_opcode 0x43 800086500 4) ≡ Ok (proposal 0x43 800086500 4)
+  pub forced : decide_of f2 (write force_opcode 0x40 631152000 4) ≡ Ok (proposal 0x40 631152000 4)
 
 -- "all flags that apply go into Procedure Rejected": the four at once, 0x0065
 abbrev pub AllGrounds : Type 0
-AllGrounds = decide_of f2 (write propose_opcode 0x00 0 57) ≡ Rejected (wrong_epoch + lower_quality + out_of_range + unrealistic)
+AllGrounds = decide_of f2 (write propose_opcode 0x00 0 57) ≡ Err (Rejected (wrong_epoch + lower_quality + out_of_range + unrealistic))
 
 -- the status that a record shows
 unfoldable pub status_in : Record → ℕ

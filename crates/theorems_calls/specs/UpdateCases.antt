@@ -1,20 +1,20 @@
 -- Cases of time updates, run by the checker on the definitions that the calls' promises cite. DT11 to DT45 and RT4 to RT32 are test vectors
 -- worked out from document 01 and the change request on radio time apart from these definitions.
-use Rattle.std.specs.Prelude.{◌≡◌, true, List, [], ◌∷◌, map, ℕ}
+use Rattle.std.specs.Prelude.{◌≡◌, true, List, [], ◌∷◌, map, ℕ, Err, None, Ok, Result}
 use Rattle.octets.specs.Numbers.{at}
 use Rattle.rules.specs.Fields.{base_b, zone_b, dst_b, source_b}
 use Rattle.record_write.specs.Layout.{update_bytes, bytes_of}
 use Rattle.clock.specs.Events.{on_off}
 use Rattle.clock.specs.declared.state.Clock.{Clock}
-use Rattle.clock.specs.declared.state.Running.TheVariants.{Idle}
 use Rattle.update_judge.specs.Proposal.{proposal_at}
 use Rattle.update_judge.specs.Grades.{clock_grade, local_b, grade_of}
 use Rattle.update_judge.specs.Grounds.{epoch_b, range_b, lower_b, seconds_apart, unrealistic_b, flag_if, grounds_of}
 use Rattle.update_decide.specs.Decide.{judged, update_operand, decide_of}
 use Rattle.update_decide.specs.Accept.{status_after, aligned_after, accuracy_of, accepted_of, update_record}
 use Rattle.update_decide.specs.Response.{response_bytes}
-use Rattle.update_decide.specs.declared.decide.Decision.{Decision}
-use Rattle.update_decide.specs.declared.decide.Decision.TheVariants.{Unsupported, WrongLength, Rejected, Taken}
+use Rattle.update_decide.specs.declared.decide.NotTaken.{NotTaken}
+use Rattle.update_decide.specs.declared.decide.NotTaken.TheVariants.{Rejected, Unsupported, WrongLength}
+use Rattle.update_judge.specs.declared.proposal.Proposal.{Proposal}
 
 -- an outcome: the response, the clock after, and the bytes of the record that is logged, if one is
 pub record Outcome : Type 0 where
@@ -37,18 +37,18 @@ taken c w r after n logged =
     record { clock = c; write = w; number = n; outcome = record { response = r; clock = after; logged = logged } }
 
 -- `decide_of` with all that it cites laid open, for the checker to compute
-unfoldable pub decided : Clock → List ℕ → Decision
+unfoldable pub decided : Clock → List ℕ → Result Proposal NotTaken
 unfolding decide_of update_operand judged proposal_at grounds_of flag_if epoch_b range_b lower_b unrealistic_b seconds_apart grade_of local_b clock_grade base_b zone_b dst_b source_b
 decided c w = decide_of c w
 
 -- what a decision does
-unfoldable pub done : Clock → ℕ → ℕ → Decision → Outcome
+unfoldable pub done : Clock → ℕ → ℕ → Result Proposal NotTaken → Outcome
 unfolding accepted_of status_after aligned_after accuracy_of update_record flag_if grade_of local_b response_bytes bytes_of update_bytes
-done c opcode n Unsupported = record { response = response_bytes opcode Unsupported; clock = c; logged = [] }
-done c opcode n WrongLength = record { response = response_bytes opcode WrongLength; clock = c; logged = [] }
-done c opcode n (Rejected flags) = record { response = response_bytes opcode (Rejected flags); clock = c; logged = [] }
-done c opcode n (Taken p) =
-    record { response = response_bytes opcode (Taken p); clock = accepted_of c p; logged = bytes_of (update_record c p n) }
+done c opcode n (Err Unsupported) = record { response = response_bytes opcode (Err Unsupported); clock = c; logged = [] }
+done c opcode n (Err WrongLength) = record { response = response_bytes opcode (Err WrongLength); clock = c; logged = [] }
+done c opcode n (Err (Rejected flags)) = record { response = response_bytes opcode (Err (Rejected flags)); clock = c; logged = [] }
+done c opcode n (Ok p) =
+    record { response = response_bytes opcode (Ok p); clock = accepted_of c p; logged = bytes_of (update_record c p n) }
 
 -- what the definitions give, and what the case says is right
 unfoldable pub got : Case → Outcome
@@ -64,7 +64,7 @@ on b z d o a t u =
     record {
       time = record { base = b; zone = z; dst = d; source = o; accuracy = a; status = t; faults = 0; aligned = u };
       switches = on_off true true true;
-      running = Idle;
+      running = None;
     }
 
 -- the new reader with all switches on

@@ -9,8 +9,7 @@ use Rattle.rules.proofs.RangeLaws.{base_makes}
 use Rattle.clock.specs.Answers.{number_of}
 use Rattle.clock.specs.State.{new_reader}
 use Rattle.clock.specs.Obeys.{running_b, time_b, clock_b}
-use Rattle.clock.specs.Events.{with_base, on_off}
-use Rattle.clock.specs.declared.events.Event.{Event}
+use Rattle.clock.specs.Events.{with_base, on_off, Event}
 use Rattle.clock.specs.declared.state.Clock.{Clock}
 use Rattle.clock.proofs.RuleLaws.{clock_reads}
 use Rattle.clock.proofs.EventLaws.{Seconds, refuses_2, refuses_7, rises, Changed, changes, seconds_is, switches_is, disconnect_is, with_base_obeys, with_switches_obeys, disconnected_obeys}

@@ -3,8 +3,7 @@ use Rattle.std.specs.Prelude.{◌≡◌, Bool, true, ℕ, ◌+◌}
 use Rattle.clock.specs.Answers.{number_of}
 use Rattle.clock.specs.State.{new_reader}
 use Rattle.clock.specs.Obeys.{clock_b}
-use Rattle.clock.specs.Events.{seconds_of, switches_of, disconnect_of, with_base}
-use Rattle.clock.specs.declared.events.Event.{Event}
+use Rattle.clock.specs.Events.{seconds_of, switches_of, disconnect_of, with_base, Event}
 use Rattle.clock.specs.declared.state.Clock.{Clock}
 
 -- "A refusal leaves state .. untouched": where the number is not 0, the clock is the one given.

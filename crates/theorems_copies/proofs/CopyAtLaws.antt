@@ -24,7 +24,6 @@ use Rattle.joining.specs.declared.joining.Joining.{Joining}
 use Rattle.joining.proofs.JoiningLaws.{Joins, refuses, goes_on, ends, join_is, empty_bytes}
 use Rattle.keep.specs.Keep.{keep_of, keeping_number}
 use Rattle.carry.specs.Stamp.{later_of, carrying_number}
-use Rattle.carry.specs.declared.stamp.Carried.{Carried}
 use Rattle.state_bytes.specs.Results.{refusal}
 use Rattle.state_bytes.specs.State.{state_bytes}
 use Rattle.state_bytes.specs.JoiningState.{joining_image}
@@ -45,6 +44,8 @@ use Rattle.theorems_bytes.proofs.StampLaws.{carried_stamp_at}
 use Rattle.theorems_copies.specs.Copies.{Copy, copy, keep_heard, keep_all, kept_in, CopyOf, WentOn}
 use Rattle.theorems_copies.specs.CopiesAt.{zero_b, keep_heard_at, keep_all_at, kept_at, copy_at, Fetched, FetchedCopyAt, FetchedOnAt, CarriedOverCopyAt, CarriedCopyAt}
 use Rattle.theorems_copies.proofs.CopyLaws.{fetched_copy, fetched_on, carried_over_copy}
+use Rattle.carry.specs.declared.stamp.CarryError.{CarryError}
+use Rattle.std.proofs.Common.{Result}
 
 zero_number : (n : ℕ) → zero_b (refusal n) ≡ eqb n 0
 zero_number zero = refl
@@ -130,7 +131,7 @@ fetched_on_at s t before w o hw ks u hs ht hu su =
 pub carried_over_copy_at : CarriedOverCopyAt
 unfolding carry_at
 carried_over_copy_at n t u sd k stamp q y h =
-    ap (λ (c : Carried). carrying (refusal (carrying_number c)) (stamp_after y c)) (carried_over_copy n t u sd k stamp q h)
+    ap (λ (c : Result ℤ CarryError). carrying (refusal (carrying_number c)) (stamp_after y c)) (carried_over_copy n t u sd k stamp q h)
 
 -- the calls after the stamp, at the image of a world
 module _ (v : World) (x : Fit v) (after : List ByteCall) (w o : List ℕ) (hw : Bytes w) (ks : List ByteCall) (z u : List ℕ) (hz : length z ≡ state_bytes)

@@ -17,7 +17,6 @@ use Rattle.filter.specs.Filter.{matches_b}
 use Rattle.filter.specs.declared.filter.Filter.{Filter}
 use Rattle.filter.specs.declared.filter.Filter.TheVariants.{All, AtLeast}
 use Rattle.record.specs.declared.kinds.Record.{Record}
-use Rattle.record.specs.declared.kinds.Reading.TheVariants.{Is}
 use Rattle.record_read.specs.Reading.{read_of}
 use Rattle.table.specs.Table.{capacity, count, oldest, next, held, first, age_of, sound_b, row_b, ring, record_in, slots, next_slot}
 use Rattle.table.specs.Rules.{Head}
@@ -47,6 +46,7 @@ use Rattle.theorems_reports.proofs.ReportLaws.{heard_report}
 use Rattle.theorems_bytes.proofs.NumberLaws.{least_held}
 use Rattle.theorems_copies.specs.Copies.{Copy, copy, after_keeping, keep_heard, keep_all, kept_in, copy_of, CopyOf, FetchedCopy, WentOn, FetchedOn, CarriedOverCopy}
 use Rattle.theorems_copies.proofs.KeepLaws.{Holds, EachBytes, none, more, keep_read, keep_readings, by_reading, ready_for, bytes_later, row_later, keeps_row}
+use Rattle.std.proofs.Common.{Some}
 
 -- what is kept is what joining reads
 abbrev KeptRead : List (List ℕ) → Type 0
@@ -124,13 +124,13 @@ fetched_copy v w o ks n hb h1 h2 a calm closed =
     let notes = (hearing_of (report_begun v w o) ks).notes in
     let heard = heard_report v w o All ks hb a calm in
     let joined = (heard.finished closed).joined in
-    let readings : (join_all empty_joining notes).records ≡ map Is (held t) =
-    ap (λ (g : Got). g.records) joined ∙ ap (map Is) (all_match (count t) 0 (held t)) in
+    let readings : (join_all empty_joining notes).records ≡ map Some (held t) =
+    ap (λ (g : Got). g.records) joined ∙ ap (map Some) (all_match (count t) 0 (held t)) in
     let sd = accepted_sound v w o All a in
     let row = sound_reads t sd in
     let begin : Holds n (fresh n) [] (first t) = new_copy n (first t) h1 h2 in
     let d = keeps_row n (ring t) (first t) row.row (first_small t) (each_bytes (count t) t (oldest t) hb) (fresh n) [] begin in
-    let c : copy_of n notes ≡ keep_readings (copy (fresh n) true) (map Is (held t)) =
+    let c : copy_of n notes ≡ keep_readings (copy (fresh n) true) (map Some (held t)) =
     kept_read notes (copy (fresh n) true) empty_joining heard.fine ∙ ap (keep_readings (copy (fresh n) true)) readings in
     let number : (first t + length (ring t)) % 65536 ≡ next t =
     ap (λ (k : ℕ). (first t + k) % 65536) (length_ring t) ∙ next_is t hb (sound_head t sd) in
@@ -214,9 +214,9 @@ module _ (v : World) (w o u : List ℕ) (f : Filter) (hb : Bytes v.table) (hu : 
   goes_on ks calm closed =
       let notes = (hearing_of (report_begun v w o) ks).notes in
       let heard = heard_report v w o f ks hb a calm in
-      let readings : (join_all empty_joining notes).records ≡ map Is (map record_in new) =
-      ap (λ (g : Got). g.records) (heard.finished closed).joined ∙ ap (map Is) (newer ∙ sym new_held) in
-      let c : kept_in u notes ≡ keep_readings (copy u true) (map Is (map record_in new)) =
+      let readings : (join_all empty_joining notes).records ≡ map Some (map record_in new) =
+      ap (λ (g : Got). g.records) (heard.finished closed).joined ∙ ap (map Some) (newer ∙ sym new_held) in
+      let c : kept_in u notes ≡ keep_readings (copy u true) (map Some (map record_in new)) =
       kept_read notes (copy u true) empty_joining heard.fine ∙ ap (keep_readings (copy u true)) readings in
       let d = keeps_row (capacity u) new (next u) new_row (le16_small u 8 hu) new_bytes u (held u) (old_copy u hu su) in
       subst (λ (x : Copy). (x.fine ≡ true) × WentOn t u x.table) (sym c) (d.fine, went d.holds)

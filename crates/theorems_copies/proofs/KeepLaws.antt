@@ -14,17 +14,16 @@ use Rattle.octets.specs.Parts.{Bytes}
 use Rattle.octets.proofs.Tests.{both_reads}
 use Rattle.record.specs.Fields.{sequence_of}
 use Rattle.record.specs.declared.kinds.Record.{Record}
-use Rattle.record.specs.declared.kinds.Reading.{Reading}
-use Rattle.record.specs.declared.kinds.Reading.TheVariants.{Is}
 use Rattle.record_write.specs.Layout.{record_of}
 use Rattle.record_read.specs.Reading.{read_of}
 use Rattle.table.specs.Table.{capacity, count, next, held, after, sound_b, slot_b, row_b, bytes_in, record_in}
 use Rattle.table.proofs.RowLaws.{Slot, over_row}
 use Rattle.table_write.specs.Append.{newest}
 use Rattle.keep.specs.Keep.{Keeping, keeping, read_kept, keep_of, keeping_number}
-use Rattle.keep.specs.declared.keep.Kept.TheVariants.{TableNotSound}
 use Rattle.keep.proofs.KeepLaws as kept
 use Rattle.theorems_copies.specs.Copies.{Copy, copy, after_keeping}
+use Rattle.keep.specs.declared.keep.KeepError.TheVariants.{TableNotSound}
+use Rattle.std.proofs.Common.{Err, Option, Some}
 
 -- the newest n of a list's newest n and one more
 pub newest_more : (n : ℕ) (l : List Record) (x : Record) → newest n (newest n l ++ (x ∷ [])) ≡ newest n (l ++ (x ∷ []))
@@ -42,10 +41,10 @@ newest_more n l x =
     place k n = omega arith
 
 -- the copy after readings, by what was read alone
-abbrev pub keep_read : List ℕ → Reading → Keeping
-keep_read u x = pick (sound_b u) (read_kept u x) (keeping TableNotSound u)
+abbrev pub keep_read : List ℕ → Option Record → Keeping
+keep_read u x = pick (sound_b u) (read_kept u x) (keeping (Err TableNotSound) u)
 
-unfoldable pub keep_readings : Copy → List Reading → Copy
+unfoldable pub keep_readings : Copy → List (Option Record) → Copy
 keep_readings c [] = c
 keep_readings c (x ∷ l) = keep_readings (after_keeping c.fine (keep_read c.table x)) l
 
@@ -121,9 +120,9 @@ pub record Done (n : ℕ) (c : Copy) (l : List Record) (s : ℕ) : Type 0 where
 module _ (n : ℕ) where
   abbrev KeepsRow : List (List ℕ) → ℕ → Type 0
   KeepsRow l s = s < 65536 → EachBytes l → (u : List ℕ) (past : List Record) → Holds n u past s
-      → Done n (keep_readings (copy u true) (map Is (map record_in l))) (past ++ map record_in l) ((s + length l) % 65536)
+      → Done n (keep_readings (copy u true) (map Some (map record_in l))) (past ++ map record_in l) ((s + length l) % 65536)
 
-  reads : (x : List ℕ) (s : ℕ) → Slot x s → read_of (bytes_in x) ≡ Is (record_in x)
+  reads : (x : List ℕ) (s : ℕ) → Slot x s → read_of (bytes_in x) ≡ Some (record_in x)
   unfolding read_of record_in
   reads x s a = rw a.well
 
@@ -138,14 +137,14 @@ module _ (n : ℕ) where
   unfolding keep_readings
   one_slot x l s a rest small (more b bs) u past h =
       let d = rest (omega arith) bs (keep_of u (bytes_in x)).table (past ++ (record_in x ∷ [])) (more_holds n u x past s h a b) in
-      let kept : keep_read u (Is (record_in x)) ≡ keep_of u (bytes_in x) = ap (keep_read u) (sym (reads x s a)) ∙ sym (by_reading u (bytes_in x)) in
+      let kept : keep_read u (Some (record_in x)) ≡ keep_of u (bytes_in x) = ap (keep_read u) (sym (reads x s a)) ∙ sym (by_reading u (bytes_in x)) in
       let fine : eqb (keeping_number (keep_of u (bytes_in x)).answer) 0 ≡ true = eq-eqb _ 0 (kept_0 n u x past s h a b) in
-      let c : after_keeping true (keep_read u (Is (record_in x))) ≡ copy (keep_of u (bytes_in x)).table true =
+      let c : after_keeping true (keep_read u (Some (record_in x))) ≡ copy (keep_of u (bytes_in x)).table true =
       ap (after_keeping true) kept ∙ ap (copy (keep_of u (bytes_in x)).table) fine in
       let number : ((s + 1) % 65536 + length l) % 65536 ≡ (s + suc (length l)) % 65536 = omega arith in
-      subst (λ (k : Copy). Done n (keep_readings k (map Is (map record_in l))) (past ++ (record_in x ∷ map record_in l)) ((s + suc (length l)) % 65536)) (sym c)
-      (subst (λ (k : ℕ). Done n (keep_readings (copy (keep_of u (bytes_in x)).table true) (map Is (map record_in l))) (past ++ (record_in x ∷ map record_in l)) k) number
-      (subst (λ (m : List Record). Done n (keep_readings (copy (keep_of u (bytes_in x)).table true) (map Is (map record_in l))) m (((s + 1) % 65536 + length l) % 65536)) (append_snoc past (record_in x) (map record_in l)) d))
+      subst (λ (k : Copy). Done n (keep_readings k (map Some (map record_in l))) (past ++ (record_in x ∷ map record_in l)) ((s + suc (length l)) % 65536)) (sym c)
+      (subst (λ (k : ℕ). Done n (keep_readings (copy (keep_of u (bytes_in x)).table true) (map Some (map record_in l))) (past ++ (record_in x ∷ map record_in l)) k) number
+      (subst (λ (m : List Record). Done n (keep_readings (copy (keep_of u (bytes_in x)).table true) (map Some (map record_in l))) m (((s + 1) % 65536 + length l) % 65536)) (append_snoc past (record_in x) (map record_in l)) d))
 
   pub keeps_row : (l : List (List ℕ)) (s : ℕ) → row_b l s ≡ true → KeepsRow l s
   keeps_row = over_row KeepsRow no_slots one_slot

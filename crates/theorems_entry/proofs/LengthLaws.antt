@@ -12,13 +12,9 @@ use Rattle.octets.specs.Choice.{either, pick}
 use Rattle.octets.specs.Numbers.{at}
 use Rattle.octets.specs.Parts.{over}
 use Rattle.record.specs.Fields.{most_bytes}
-use Rattle.record.specs.declared.kinds.Reading.{Reading}
-use Rattle.record.specs.declared.kinds.Reading.TheVariants.{Is}
-use Rattle.record.specs.declared.kinds.Reading.TheVariants as readings
 use Rattle.record_read.specs.Reading.{read_of}
 use Rattle.record_read.specs.Reading as wellFormed
 use Rattle.table.specs.Table.{size_b, next}
-use Rattle.clock.specs.declared.answers.Answer.TheVariants.{TableNotSound}
 use Rattle.clock.specs.declared.state.Clock.{Clock}
 use Rattle.codes.specs.Dtcp.{procedure_rejected}
 use Rattle.rows.specs.Rows.{idle_b}
@@ -36,13 +32,8 @@ use Rattle.joining.specs.declared.joining.Joining.{Joining}
 use Rattle.joining.proofs.JoiningLaws.{Joins, refuses, goes_on, join_is}
 use Rattle.joining.proofs.JoiningLaws as joins
 use Rattle.keep.specs.Keep.{keep_of, keeping_number}
-use Rattle.keep.specs.declared.keep.Kept.{Kept}
-use Rattle.keep.specs.declared.keep.Kept.TheVariants as kepts
 use Rattle.carry.specs.Stamp.{carry_of}
 use Rattle.carry.specs.Stamp as carry
-use Rattle.carry.specs.declared.stamp.Carried.{Carried}
-use Rattle.carry.specs.declared.stamp.Carried.TheVariants.{To, NotHeld, FaultAmong}
-use Rattle.carry.specs.declared.stamp.Carried.TheVariants as carrieds
 use Rattle.state_bytes.specs.State.{clock_of}
 use Rattle.state_bytes.specs.JoiningState.{joining_bytes, joining_in}
 use Rattle.state_bytes.specs.Results.{refusal}
@@ -55,6 +46,13 @@ use Rattle.tablet_bytes.specs.Calls.{join_result, joined_bytes, joined, join_at,
 use Rattle.theorems_entry.specs.Lengths.{Lengths, Written}
 use Rattle.theorems_entry.proofs.ReplyLengths.{pos_is, done_length, replied_wrote, fault_replied, ending_length, update_replied, response_length, access_replied, request_four, four_length, four_none, time_replied, time_length, told_wrote}
 use Rattle.theorems_entry.proofs.NoticeLengths.{notify_length, segment_written, closed_written}
+use Rattle.carry.specs.declared.stamp.CarryError.{CarryError}
+use Rattle.carry.specs.declared.stamp.CarryError.TheVariants as carries
+use Rattle.keep.specs.declared.keep.KeepError.{KeepError}
+use Rattle.keep.specs.declared.keep.KeepError.TheVariants as keeps
+use Rattle.record.specs.declared.kinds.Record.{Record}
+use Rattle.std.proofs.Common.{Err, None, Ok, Option, Result, Some, ℤ}
+use Rattle.clock.specs.declared.answers.Refusal.TheVariants.{TableNotSound}
 
 -- starting, joining, reading, keeping, carrying
 start_length : (s t : List ℕ) (n : ℕ) → (start_at s t).result ≡ pos n → n ≡ 0
@@ -79,23 +77,23 @@ join_length j b n = go (eqb (length j) joining_bytes)
     go true h = joins_length n (join_is (joining_in j) b) h
     go false h = absurd (pos-ne-negsuc n _ (sym h))
 
-read_length : (r : Reading) (n : ℕ) → refusal (wellFormed.reading_number r) ≡ pos n → n ≡ 0
-read_length (Is r) n h = pos_is 0 n h
-read_length readings.Refused n h = absurd (pos-ne-negsuc n _ (sym h))
+read_length : (r : Option Record) (n : ℕ) → refusal (wellFormed.reading_number r) ≡ pos n → n ≡ 0
+read_length (Some r) n h = pos_is 0 n h
+read_length None n h = absurd (pos-ne-negsuc n _ (sym h))
 
-keep_length : (k : Kept) (n : ℕ) → refusal (keeping_number k) ≡ pos n → n ≡ 0
+keep_length : (k : Result (Unit {0}) KeepError) (n : ℕ) → refusal (keeping_number k) ≡ pos n → n ≡ 0
 unfolding keeping_number
-keep_length kepts.Done n h = pos_is 0 n h
-keep_length kepts.TableNotSound n h = absurd (pos-ne-negsuc n _ (sym h))
-keep_length kepts.NotARecord n h = absurd (pos-ne-negsuc n _ (sym h))
-keep_length kepts.DoesNotFollow n h = absurd (pos-ne-negsuc n _ (sym h))
+keep_length (Ok done) n h = pos_is 0 n h
+keep_length (Err keeps.TableNotSound) n h = absurd (pos-ne-negsuc n _ (sym h))
+keep_length (Err keeps.NotARecord) n h = absurd (pos-ne-negsuc n _ (sym h))
+keep_length (Err keeps.DoesNotFollow) n h = absurd (pos-ne-negsuc n _ (sym h))
 
-carry_length : (r : Carried) (n : ℕ) → refusal (carry.carrying_number r) ≡ pos n → n ≡ 0
+carry_length : (r : Result ℤ CarryError) (n : ℕ) → refusal (carry.carrying_number r) ≡ pos n → n ≡ 0
 unfolding carry.carrying_number
-carry_length (To z) n h = pos_is 0 n h
-carry_length carrieds.TableNotSound n h = absurd (pos-ne-negsuc n _ (sym h))
-carry_length NotHeld n h = absurd (pos-ne-negsuc n _ (sym h))
-carry_length FaultAmong n h = absurd (pos-ne-negsuc n _ (sym h))
+carry_length (Ok z) n h = pos_is 0 n h
+carry_length (Err carries.TableNotSound) n h = absurd (pos-ne-negsuc n _ (sym h))
+carry_length (Err carries.NotHeld) n h = absurd (pos-ne-negsuc n _ (sym h))
+carry_length (Err carries.FaultAmong) n h = absurd (pos-ne-negsuc n _ (sym h))
 
 -- a reply by its result
 fault_length_lem : (c : Clock) (t o : List ℕ) (n : ℕ) → result_of (fault_of c t o).reply.answer (fault_of c t o).reply.len ≡ pos n

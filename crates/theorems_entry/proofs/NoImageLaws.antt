@@ -7,12 +7,9 @@ use Prim.Native.Nat.{ℕ}
 use lib.IntN.{ℤ, negsuc}
 use Rattle.octets.specs.Choice.{pick}
 use Rattle.table.specs.Table.{sound_b}
-use Rattle.clock.specs.Answers.{number_of}
-use Rattle.clock.specs.Events.{event, seconds_of, switches_of, disconnect_of}
+use Rattle.clock.specs.Answers.{number_of, Answer}
+use Rattle.clock.specs.Events.{event, seconds_of, switches_of, disconnect_of, Event}
 use Rattle.clock.specs.Obeys.{clock_b}
-use Rattle.clock.specs.declared.answers.Answer.{Answer}
-use Rattle.clock.specs.declared.answers.Answer.TheVariants.{TableNotSound, ClockBroken}
-use Rattle.clock.specs.declared.events.Event.{Event}
 use Rattle.clock.specs.declared.state.Clock.{Clock}
 use Rattle.clock.proofs.EventLaws.{seconds_2, switches_2, disconnect_2}
 use Rattle.rows.specs.Reply.{done_b}
@@ -36,6 +33,8 @@ use Rattle.server_bytes.specs.Calls.{Called, called, replied, notified, fault_at
 use Rattle.server_bytes.specs.ValuesRead.{shown, answered_bytes, device_time_at}
 use Rattle.theorems_entry.specs.Theorems.{unless_no_image, no_image, unread, NoImage}
 use Rattle.theorems_entry.proofs.PromiseLaws.{unchanged}
+use Rattle.clock.specs.declared.answers.Refusal.TheVariants.{ClockBroken, TableNotSound}
+use Rattle.std.proofs.Common.{Err}
 
 -- a call on the clock that bytes stand for, which refuses a clock that breaks a rule
 over : {A : Type 0} (s : List ℕ) (none : A) (f : Clock → A) → (clock_b (clock_of s) ≡ false → f (clock_of s) ≡ none)
@@ -47,7 +46,7 @@ over s none f refuses = go (image_b s) refl
     go false e = refuses (no_image_lem s e)
 
 -- an event: 2
-event_broken : (s : List ℕ) {c : Clock} {e : Event} → e ≡ event ClockBroken c → eventful s e ≡ ran (refusal 2) s
+event_broken : (s : List ℕ) {c : Clock} {e : Event} → e ≡ event (Err ClockBroken) c → eventful s e ≡ ran (refusal 2) s
 unfolding settled_of result_of state_after done_b number_of
 event_broken s h = ap (eventful s) h
 
@@ -59,7 +58,7 @@ below : (t : List ℕ) {a : Answer} (n : ℕ) → a ≡ broken_of t → result_o
 unfolding result_of done_b number_of number
 below t n e = ap (λ (x : Answer). result_of x n) e ∙ go (sound_b t)
   where
-    go : (b : Bool) → result_of (pick b ClockBroken TableNotSound) n ≡ negsuc (pick b 1 0)
+    go : (b : Bool) → result_of (pick b (Err ClockBroken) (Err TableNotSound)) n ≡ negsuc (pick b 1 0)
     go true = refl
     go false = refl
 

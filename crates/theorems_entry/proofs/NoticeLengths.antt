@@ -18,23 +18,21 @@ use Rattle.filter.specs.Filter.{matches_b}
 use Rattle.table.specs.Table.{count, held, age_of}
 use Rattle.table_look.specs.Matching.{matching}
 use Rattle.clock.specs.declared.state.Clock.{Clock}
-use Rattle.clock.specs.declared.state.Left.{Left}
-use Rattle.clock.specs.declared.state.Left.TheVariants.{Nothing, From}
 use Rattle.clock.specs.declared.state.Report.{Report}
-use Rattle.clock.specs.declared.state.Running.{Running}
-use Rattle.clock.specs.declared.state.Running.TheVariants.{Idle, Reporting}
 use Rattle.codes.specs.Racp.{report_opcode, combined_opcode, combined_response}
 use Rattle.codes.specs.Response.{code_bytes, count_bytes}
 use Rattle.codes.specs.declared.response.Code.TheVariants.{Success}
 use Rattle.rows.specs.Reply.{done_b, refused, answered}
 use Rattle.rows.specs.Rows.{unsent_b, left_b}
-use Rattle.rows.proofs.RowLaws.{table_all}
+use Rattle.rows.proofs.RowLaws.{table_all, err_refused}
 use Rattle.racp_access.specs.Report.{first_bytes}
 use Rattle.racp_notify.specs.Notify.{room_b, segment_of, closing_of, Said, said_of, Notice, noticed, notify_of}
 use Rattle.racp_notify.proofs.NotifyLaws.{tables, notify_idle, notify_refused, notify_said, ready}
 use Rattle.server_bytes.specs.Results.{result_of, closing_length}
 use Rattle.theorems_entry.specs.Lengths.{Wrote}
-use Rattle.theorems_entry.proofs.ReplyLengths.{done_length, idle_refused, over_wrote}
+use Rattle.theorems_entry.proofs.ReplyLengths.{done_length, over_wrote}
+use Rattle.clock.specs.declared.answers.Refusal.TheVariants.{NothingRunning}
+use Rattle.std.proofs.Common.{None, Option, Some, Err}
 
 -- a notification: a segment of 2 to p bytes, or four that close
 data Noted (p : ℕ) (s : Said) : Type 0 where
@@ -54,10 +52,10 @@ unfolding first_bytes
 unsent_first sent [] h = absurd (clash false h refl)
 unsent_first sent (r ∷ l) h = ltb-true sent (length (bytes_of r)) h
 
-said_noted : (c : Clock) (t : List ℕ) (p : ℕ) (r : Report) (l : Left) → 20 ≤ p → left_b t r.filter l ≡ true → Noted p (said_of c t (p - 1) r l)
+said_noted : (c : Clock) (t : List ℕ) (p : ℕ) (r : Report) (l : Option (ℕ × ℕ)) → 20 ≤ p → left_b t r.filter l ≡ true → Noted p (said_of c t (p - 1) r l)
 unfolding said_of segment_of left_b
-said_noted c t p r Nothing low h = ends refl (closing_four t r)
-said_noted c t p r (From number sent) low h =
+said_noted c t p r None low h = ends refl (closing_four t r)
+said_noted c t p r (Some (number, sent)) low h =
     let a = both_reads (ltb (age_of t number) (count t)) _ h in
     let b = both_reads (matches_b r.filter (count t) (age_of t number) number) _ a.1 in
     let k = unsent_first sent (drop (age_of t number) (held t)) b.1 in
@@ -80,16 +78,20 @@ module _ (c : Clock) (t : List ℕ) (p : ℕ) (o : List ℕ) where
   data Answered : Type 0 where
     runs : (s : Said) → Notifies p o (notify_of c t p o) s → Answered
 
+  stopped : done_b (tables c t p o) ≡ false → done_b (notify_of c t p o).reply.answer ≡ true → Answered
+  stopped d h =
+      absurd (clash (done_b (notify_of c t p o).reply.answer) h (ap (λ (x : Notice). done_b x.reply.answer) (notify_refused c t p o d) ∙ d))
+
   notify_answered : done_b (notify_of c t p o).reply.answer ≡ true → Answered
   unfolding noticed
   notify_answered = go c.running refl (done_b (tables c t p o)) refl
     where
-      go : (r : Running) → c.running ≡ r → (b : Bool) → done_b (tables c t p o) ≡ b → done_b (notify_of c t p o).reply.answer ≡ true → Answered
-      go Idle e b d h =
-          absurd (clash (done_b (notify_of c t p o).reply.answer) h (ap (λ (x : Notice). done_b x.reply.answer) (notify_idle c t p o e) ∙ idle_refused (tables c t p o)))
-      go (Reporting r) e false d h =
-          absurd (clash (done_b (notify_of c t p o).reply.answer) h (ap (λ (x : Notice). done_b x.reply.answer) (notify_refused c t p o r e d) ∙ d))
-      go (Reporting r) e true d h =
+      go : (r : Option Report) → c.running ≡ r → (b : Bool) → done_b (tables c t p o) ≡ b → done_b (notify_of c t p o).reply.answer ≡ true → Answered
+      go None e false d h = stopped d h
+      go None e true d h =
+          absurd (clash (done_b (notify_of c t p o).reply.answer) h (ap (λ (x : Notice). done_b x.reply.answer) (notify_idle c t p o d e) ∙ err_refused (Err NothingRunning) NothingRunning refl))
+      go (Some r) e false d h = stopped d h
+      go (Some r) e true d h =
           let k = ready c t p (length o) r e (table_all c t (room_b p (length o)) d) in
           runs (said_of c t (p - 1) r r.left)
           (rw (notify_said c t p o r e d)

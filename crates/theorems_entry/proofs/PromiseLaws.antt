@@ -13,18 +13,12 @@ use Rattle.octets.proofs.Tests.{false_by}
 use Rattle.codes.specs.Att.{att_error_at}
 use Rattle.record_read.specs.Reading.{read_of}
 use Rattle.record_read.specs.Reading as wellFormed
-use Rattle.record.specs.declared.kinds.Reading.{Reading}
-use Rattle.record.specs.declared.kinds.Reading.TheVariants.{Is}
-use Rattle.record.specs.declared.kinds.Reading.TheVariants as readings
 use Rattle.table.specs.Table.{size_b, slots_in}
 use Rattle.table_write.specs.Start.{fresh, start_of}
-use Rattle.clock.specs.Answers.{number_of, att_error_of}
+use Rattle.clock.specs.Answers.{number_of, att_error_of, Answer}
 use Rattle.clock.specs.State.{new_reader}
-use Rattle.clock.specs.Events.{seconds_of, switches_of, disconnect_of}
+use Rattle.clock.specs.Events.{seconds_of, switches_of, disconnect_of, Event}
 use Rattle.clock.specs.Obeys.{clock_b}
-use Rattle.clock.specs.declared.answers.Answer.{Answer}
-use Rattle.clock.specs.declared.answers.Answer.TheVariants.{Done, TableNotSound, ClockBroken, OutputShort, WriteLength, SwitchedOff, ReportRunning, PastTheEnd, NothingRunning}
-use Rattle.clock.specs.declared.events.Event.{Event}
 use Rattle.clock.specs.declared.state.Clock.{Clock}
 use Rattle.rows.specs.Reply.{Outcome, done_b}
 use Rattle.update.specs.Fault.{fault_of}
@@ -47,9 +41,6 @@ use Rattle.theorems_calls.proofs.JoinedLaws as tablet
 use Rattle.keep.proofs.KeepLaws as keep
 use Rattle.carry.specs.Stamp.{carry_of}
 use Rattle.carry.specs.Stamp as carry
-use Rattle.carry.specs.declared.stamp.Carried.{Carried}
-use Rattle.carry.specs.declared.stamp.Carried.TheVariants.{To, NotHeld, FaultAmong}
-use Rattle.carry.specs.declared.stamp.Carried.TheVariants as carrieds
 use Rattle.state_bytes.specs.State.{image_of, clock_of}
 use Rattle.state_bytes.specs.JoiningState.{joining_bytes, joining_image, joining_in}
 use Rattle.state_bytes.specs.Results.{refusal}
@@ -64,6 +55,10 @@ use Rattle.server_bytes.specs.ValuesRead.{answered_bytes, device_time_at, featur
 use Rattle.tablet_bytes.specs.Calls.{JoinedBytes, join_result, joined, joined_bytes, join_at, read_at, numbers_after, keep_at, carry_at, stamp_after}
 use Rattle.theorems_entry.specs.Theorems.{RefusedUnchanged, Composes, Errors}
 use Rattle.server_bytes.proofs.ResultLaws.{result_done}
+use Rattle.carry.specs.declared.stamp.CarryError.{CarryError}
+use Rattle.record.specs.declared.kinds.Record.{Record}
+use Rattle.std.proofs.Common.{Err, None, Ok, Option, Result, Some}
+use Rattle.clock.specs.declared.answers.Refusal.TheVariants.{ClockBroken, NothingRunning, OutputShort, PastTheEnd, ReportRunning, SwitchedOff, TableNotSound, WriteLength}
 
 -- a result below 0 is a refusal, and leaves the state
 below : (a : Answer) (n m : ℕ) → result_of a n ≡ negsuc m → done_b a ≡ false
@@ -102,11 +97,11 @@ module _ (s t : List ℕ) (n : ℕ) where
   abbrev StartBelow : StartedBytes → Type 0
   StartBelow x = x.result ≡ negsuc n → x ≡ started_bytes (negsuc n) s t
 
-  begun_done : size_b (length t) ≡ true → new_reader_of t ≡ begun (record { answer = Done; clock = new_reader }) (fresh (slots_in (length t)))
+  begun_done : size_b (length t) ≡ true → new_reader_of t ≡ begun (record { answer = Ok tt; clock = new_reader }) (fresh (slots_in (length t)))
   unfolding new_reader_of start_of
   begun_done h = rw h
 
-  begun_refused : size_b (length t) ≡ false → new_reader_of t ≡ begun (record { answer = TableNotSound; clock = new_reader }) t
+  begun_refused : size_b (length t) ≡ false → new_reader_of t ≡ begun (record { answer = Err TableNotSound; clock = new_reader }) t
   unfolding new_reader_of start_of
   begun_refused h = rw h
 
@@ -153,20 +148,18 @@ joins_below j b n = go (eqb (length j) joining_bytes) refl
     go false e h = refl
 
 -- reading, keeping and carrying
-read_below : (f : List ℕ) (n : ℕ) (r : Reading) → refusal (wellFormed.reading_number r) ≡ negsuc n → numbers_after f r ≡ f
-read_below f n (Is r) h = absurd (pos-ne-negsuc 0 n h)
-read_below f n readings.Refused h = refl
+read_below : (f : List ℕ) (n : ℕ) (r : Option Record) → refusal (wellFormed.reading_number r) ≡ negsuc n → numbers_after f r ≡ f
+read_below f n (Some r) h = absurd (pos-ne-negsuc 0 n h)
+read_below f n None h = refl
 
 keep_below : (t b : List ℕ) (n : ℕ) → (keep_at t b).result ≡ negsuc n → (keep_at t b).table ≡ t
 unfolding keep_at
 keep_below t b n h = keep.refused_unchanged t b (λ e. pos-ne-negsuc 0 n (sym (ap refusal e) ∙ h))
 
-carry_below : (z : ℤ) (n : ℕ) (r : Carried) → refusal (carry.carrying_number r) ≡ negsuc n → stamp_after z r ≡ z
+carry_below : (z : ℤ) (n : ℕ) (r : Result ℤ CarryError) → refusal (carry.carrying_number r) ≡ negsuc n → stamp_after z r ≡ z
 unfolding carry.carrying_number
-carry_below z n (To y) h = absurd (pos-ne-negsuc 0 n h)
-carry_below z n carrieds.TableNotSound h = refl
-carry_below z n NotHeld h = refl
-carry_below z n FaultAmong h = refl
+carry_below z n (Ok y) h = absurd (pos-ne-negsuc 0 n h)
+carry_below z n (Err why) h = refl
 
 pub unchanged : RefusedUnchanged
 unfolding seconds_at switches_at disconnect_at fault_at dtcp_at racp_at notify_at device_time_at feature_at parameters_at read_at carry_at
@@ -215,12 +208,12 @@ composes =
 
 pub errors : Errors
 unfolding att_error_at number_of att_error_of
-errors Done = refl
-errors TableNotSound = refl
-errors ClockBroken = refl
-errors OutputShort = refl
-errors WriteLength = refl
-errors SwitchedOff = refl
-errors ReportRunning = refl
-errors PastTheEnd = refl
-errors NothingRunning = refl
+errors (Ok done) = refl
+errors (Err TableNotSound) = refl
+errors (Err ClockBroken) = refl
+errors (Err OutputShort) = refl
+errors (Err WriteLength) = refl
+errors (Err SwitchedOff) = refl
+errors (Err ReportRunning) = refl
+errors (Err PastTheEnd) = refl
+errors (Err NothingRunning) = refl

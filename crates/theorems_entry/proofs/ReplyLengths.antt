@@ -16,14 +16,8 @@ use Rattle.octets.proofs.PartLaws.{length_over, drop_over}
 use Rattle.octets.proofs.Tests.{clash}
 use Rattle.filter.specs.declared.filter.Filter.{Filter}
 use Rattle.table.specs.Table.{next}
-use Rattle.clock.specs.Answers.{number_of}
-use Rattle.clock.specs.declared.answers.Answer.{Answer}
-use Rattle.clock.specs.declared.answers.Answer.TheVariants.{Done, TableNotSound, ClockBroken, OutputShort, WriteLength, SwitchedOff, ReportRunning, PastTheEnd, NothingRunning}
+use Rattle.clock.specs.Answers.{number_of, Answer}
 use Rattle.clock.specs.declared.state.Clock.{Clock}
-use Rattle.clock.specs.declared.state.Left.{Left}
-use Rattle.clock.specs.declared.state.Left.TheVariants.{Nothing, From}
-use Rattle.clock.specs.declared.state.Running.{Running}
-use Rattle.clock.specs.declared.state.Running.TheVariants.{Idle, Reporting}
 use Rattle.codes.specs.Dtcp.{procedure_rejected}
 use Rattle.codes.specs.Response.{code_bytes, count_bytes}
 use Rattle.rows.specs.Reply.{Outcome, done_b, refused, answered}
@@ -31,8 +25,6 @@ use Rattle.rows.specs.Rows.{first_failed, then_of, idle_b, table_rows, write_row
 use Rattle.rows.proofs.RowLaws.{table_done, table_all}
 use Rattle.update_decide.specs.Decide.{decide_of}
 use Rattle.update_decide.specs.Response.{response_bytes}
-use Rattle.update_decide.specs.declared.decide.Decision.{Decision}
-use Rattle.update_decide.specs.declared.decide.Decision.TheVariants.{Unsupported, WrongLength, Rejected, Taken}
 use Rattle.update.specs.Fault.{ending_of, fault_of}
 use Rattle.update.specs.TimeUpdate.{update_rows, effect_of, update_of}
 use Rattle.update.proofs.FaultLaws.{fault_refused, fault_done}
@@ -40,13 +32,20 @@ use Rattle.update.proofs.UpdateLaws.{update_refused, update_done, response_short
 use Rattle.characteristics.specs.Value.{Told, told, value, device_time_bytes, device_time_of, told_of}
 use Rattle.characteristics.proofs.ValueLaws.{device_time_refused, device_time_done}
 use Rattle.racp_request.specs.Request.{opcode_in, request_of}
-use Rattle.racp_request.specs.declared.request.Request.{Request}
-use Rattle.racp_request.specs.declared.request.Request.TheVariants.{Report as ReportOf, Number, Abort, Refused as RefusedOf}
 use Rattle.racp_access.specs.Report.{left_from}
 use Rattle.racp_access.specs.Access.{access_rows, accessed, begun_of, aborted_of, accessed_of, response_in, access_of}
 use Rattle.racp_access.proofs.AccessLaws.{access_refused, access_done_lem}
 use Rattle.server_bytes.specs.Results.{result_of}
 use Rattle.theorems_entry.specs.Lengths.{Wrote}
+use Rattle.clock.specs.declared.state.Report.{Report}
+use Rattle.codes.specs.declared.response.Code.{Code}
+use Rattle.racp_request.specs.declared.request.Request.{Request}
+use Rattle.racp_request.specs.declared.request.Request.TheVariants.{Abort, Number, Report as ReportOf}
+use Rattle.std.proofs.Common.{Err, None, Ok, Option, Result, Some}
+use Rattle.update_decide.specs.declared.decide.NotTaken.{NotTaken}
+use Rattle.update_decide.specs.declared.decide.NotTaken.TheVariants.{Rejected, Unsupported, WrongLength}
+use Rattle.update_judge.specs.declared.proposal.Proposal.{Proposal}
+use Rattle.clock.specs.declared.answers.Refusal.TheVariants.{ClockBroken, NothingRunning, OutputShort, PastTheEnd, ReportRunning, SwitchedOff, TableNotSound, WriteLength}
 
 -- a result that is a length: the answer was 0, and the length is the reply's
 pub pos_is : (m n : ℕ) → pos m ≡ pos n → n ≡ m
@@ -54,32 +53,19 @@ pos_is m n h = sym (ap nat_abs h)
 
 pub done_length : (a : Answer) (m n : ℕ) → result_of a m ≡ pos n → (done_b a ≡ true) × (n ≡ m)
 unfolding result_of done_b number_of
-done_length Done m n h = (refl, pos_is m n h)
-done_length TableNotSound m n h = absurd (pos-ne-negsuc n _ (sym h))
-done_length ClockBroken m n h = absurd (pos-ne-negsuc n _ (sym h))
-done_length OutputShort m n h = absurd (pos-ne-negsuc n _ (sym h))
-done_length WriteLength m n h = absurd (pos-ne-negsuc n _ (sym h))
-done_length SwitchedOff m n h = absurd (pos-ne-negsuc n _ (sym h))
-done_length ReportRunning m n h = absurd (pos-ne-negsuc n _ (sym h))
-done_length PastTheEnd m n h = absurd (pos-ne-negsuc n _ (sym h))
-done_length NothingRunning m n h = absurd (pos-ne-negsuc n _ (sym h))
+done_length (Ok done) m n h = (refl, pos_is m n h)
+done_length (Err TableNotSound) m n h = absurd (pos-ne-negsuc n _ (sym h))
+done_length (Err ClockBroken) m n h = absurd (pos-ne-negsuc n _ (sym h))
+done_length (Err OutputShort) m n h = absurd (pos-ne-negsuc n _ (sym h))
+done_length (Err WriteLength) m n h = absurd (pos-ne-negsuc n _ (sym h))
+done_length (Err SwitchedOff) m n h = absurd (pos-ne-negsuc n _ (sym h))
+done_length (Err ReportRunning) m n h = absurd (pos-ne-negsuc n _ (sym h))
+done_length (Err PastTheEnd) m n h = absurd (pos-ne-negsuc n _ (sym h))
+done_length (Err NothingRunning) m n h = absurd (pos-ne-negsuc n _ (sym h))
 
-short_refused : done_b OutputShort ≡ false
+short_refused : done_b (Err OutputShort) ≡ false
 unfolding done_b number_of
 short_refused = refl
-
--- no report is running: row 8, or a row before it
-pub idle_refused : (a : Answer) → done_b (then_of a NothingRunning) ≡ false
-unfolding then_of done_b number_of
-idle_refused Done = refl
-idle_refused TableNotSound = refl
-idle_refused ClockBroken = refl
-idle_refused OutputShort = refl
-idle_refused WriteLength = refl
-idle_refused SwitchedOff = refl
-idle_refused ReportRunning = refl
-idle_refused PastTheEnd = refl
-idle_refused NothingRunning = refl
 
 -- bytes laid over the front of an output with room for them
 pub over_wrote : (o xs : List ℕ) → length xs ≤ length o → Wrote o (length xs) (over o 0 xs)
@@ -107,15 +93,15 @@ unless_failed : {P : Type 0} (a : Answer) (c : Clock) (t o : List ℕ) (u : Outc
 unless_failed a c t o u e h d = absurd (clash (done_b u.reply.answer) d (ap (λ (x : Outcome). done_b x.reply.answer) e ∙ h))
 
 -- a time fault
-pub ending_length : (r : Running) → length (ending_of r) ≡ pick (idle_b r) 0 4
+pub ending_length : (r : Option Report) → length (ending_of r) ≡ pick (idle_b r) 0 4
 unfolding ending_of code_bytes
-ending_length Idle = refl
-ending_length (Reporting r) = refl
+ending_length None = refl
+ending_length (Some r) = refl
 
-ending_short : (r : Running) → length (ending_of r) ≤ 4
+ending_short : (r : Option Report) → length (ending_of r) ≤ 4
 unfolding ending_of code_bytes
-ending_short Idle = omega arith
-ending_short (Reporting r) = omega arith
+ending_short None = omega arith
+ending_short (Some r) = omega arith
 
 module _ (c : Clock) (t o : List ℕ) where
   pub fault_replied : done_b (fault_of c t o).reply.answer ≡ true → Replied o (ending_of c.running) (fault_of c t o)
@@ -146,13 +132,13 @@ module _ (c : Clock) (t w o : List ℕ) where
           rw (update_done c t w o h) (is_answered o _ _ response (omega (arith, response_short (at w 0) (decide_of c w))))
       go false h d = unless_failed _ c t o (update_of c t w o) (update_refused c t w o h) h d
 
-pub response_length : (o : List ℕ) (op : ℕ) (d : Decision)
+pub response_length : (o : List ℕ) (op : ℕ) (d : Result Proposal NotTaken)
     → length (response_bytes op d) ≡ pick (eqb (at (over o 0 (response_bytes op d)) 2) procedure_rejected) 5 3
 unfolding response_bytes over
-response_length o op Unsupported = refl
-response_length o op WrongLength = refl
-response_length o op (Rejected flags) = refl
-response_length o op (Taken p) = refl
+response_length o op (Err Unsupported) = refl
+response_length o op (Err WrongLength) = refl
+response_length o op (Err (Rejected flags)) = refl
+response_length o op (Ok p) = refl
 
 -- a write to the RACP: no byte, or four
 pub data Four (xs : List ℕ) : Type 0 where
@@ -163,22 +149,22 @@ accessed_four : (c : Clock) (xs : List ℕ) → length xs ≡ 4 → Four (respon
 unfolding accessed
 accessed_four c xs h = four (rw length-take (omega (arith, length-append xs (replicate (4 - length xs) 0))))
 
-begun_four : (c : Clock) (op : ℕ) (f : Filter) (l : Left) → Four (response_in (begun_of c op f l))
+begun_four : (c : Clock) (op : ℕ) (f : Filter) (l : Option (ℕ × ℕ)) → Four (response_in (begun_of c op f l))
 unfolding begun_of accessed code_bytes
-begun_four c op f Nothing = four refl
-begun_four c op f (From n s) = none refl
+begun_four c op f None = four refl
+begun_four c op f (Some (n, s)) = none refl
 
-aborted_four : (c : Clock) (r : Running) → Four (response_in (aborted_of c r))
+aborted_four : (c : Clock) (r : Option Report) → Four (response_in (aborted_of c r))
 unfolding aborted_of accessed code_bytes
-aborted_four c Idle = four refl
-aborted_four c (Reporting r) = four refl
+aborted_four c None = four refl
+aborted_four c (Some r) = four refl
 
-pub request_four : (c : Clock) (t : List ℕ) (op : ℕ) (q : Request) → Four (response_in (accessed_of c t op q))
+pub request_four : (c : Clock) (t : List ℕ) (op : ℕ) (q : Result Request Code) → Four (response_in (accessed_of c t op q))
 unfolding accessed_of accessed code_bytes count_bytes
-request_four c t op (ReportOf f) = begun_four c op f (left_from f t 0)
-request_four c t op (Number f) = four refl
-request_four c t op Abort = aborted_four c c.running
-request_four c t op (RefusedOf k) = four refl
+request_four c t op (Ok (ReportOf f)) = begun_four c op f (left_from f t 0)
+request_four c t op (Ok (Number f)) = four refl
+request_four c t op (Ok Abort) = aborted_four c c.running
+request_four c t op (Err k) = four refl
 
 four_short : {xs : List ℕ} → Four xs → length xs ≤ 4
 four_short (none e) = rw e (omega arith)
@@ -235,10 +221,10 @@ pub told_wrote : (v o : List ℕ) (n : ℕ) → length v ≤ 20 → result_of (t
 unfolding told_of
 told_wrote v o n short = go (leb 20 (length o)) refl
   where
-    go : (b : Bool) → leb 20 (length o) ≡ b → let u : Told = pick b (told (value Done (length v)) (over o 0 v)) (told (value OutputShort 0) o) in
+    go : (b : Bool) → leb 20 (length o) ≡ b → let u : Told = pick b (told (value (Ok tt) (length v)) (over o 0 v)) (told (value (Err OutputShort) 0) o) in
         result_of u.value.answer u.value.len ≡ pos n → (n ≡ length v) × Wrote o n u.output
     go true e h =
-        let z = (done_length Done (length v) n h).1 in
+        let z = (done_length (Ok tt) (length v) n h).1 in
         let k = leb-true 20 (length o) e in
         (z, rw z (over_wrote o v (omega arith)))
-    go false e h = absurd (clash (done_b OutputShort) (done_length OutputShort 0 n h).0 short_refused)
+    go false e h = absurd (clash (done_b (Err OutputShort)) (done_length (Err OutputShort) 0 n h).0 short_refused)

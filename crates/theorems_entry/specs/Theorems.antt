@@ -3,10 +3,9 @@ use Rattle.std.specs.Prelude.{◌≡◌, true, List, ℕ, eqb, ℤ, pos, negsuc,
 use Rattle.octets.specs.Choice.{pick}
 use Rattle.codes.specs.Att.{att_error_at}
 use Rattle.table.specs.Table.{sound_b}
-use Rattle.clock.specs.Answers.{number_of, att_error_of}
+use Rattle.clock.specs.Answers.{number_of, att_error_of, Answer}
 use Rattle.clock.specs.Events.{seconds_of, switches_of, disconnect_of}
 use Rattle.clock.specs.Obeys.{clock_b}
-use Rattle.clock.specs.declared.answers.Answer.{Answer}
 use Rattle.clock.specs.declared.state.Clock.{Clock}
 use Rattle.update.specs.Fault.{fault_of}
 use Rattle.update.specs.Start.{new_reader_of}

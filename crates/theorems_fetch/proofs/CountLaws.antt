@@ -10,6 +10,7 @@ use borrow.Author.Tests.{eqb-true, eqb-false}
 use lib.Count.{ones_in}
 use lib.Dec.{eqb}
 use lib.ListN.{length}
+use Rattle.std.proofs.lemmas.List.Sums.{sum_by-cons}
 use Rattle.octets.specs.Choice.{pick}
 use Rattle.octets.specs.Numbers.{at}
 use Rattle.fetch_word.specs.Bits.{bit_b}
@@ -50,11 +51,12 @@ word_ones (suc n) x =
     go false e = let odd = eqb-false (x % 2) 1 e in omega arith
 
 pub map_ones : (m : List ℕ) → ones_of m ≡ count_b (received_b m) (64 * length m)
-unfolding ones_of received_b count_b
+unfolding received_b count_b
 map_ones [] = refl
 map_ones (x ∷ m) =
     let size : 64 + 64 * length m ≡ 64 * suc (length m) = omega arith in
-    ap₂ (λ (a b : ℕ). a + b)
+    sum_by-cons (ones_in 64) x m
+    ∙ ap₂ (λ (a b : ℕ). a + b)
     (word_ones 64 x ∙ count_alike (bit_b x) (received_b (x ∷ m)) 64 this)
     (map_ones m ∙ count_alike (received_b m) (λ i. received_b (x ∷ m) (64 + i)) (64 * length m) (λ i p. later i))
     ∙ sym (count_append (received_b (x ∷ m)) 64 (64 * length m))

@@ -7,15 +7,16 @@ use Prim.Native.Nat.{ℕ, zero, suc, ◌+◌, ◌*◌, ◌-◌, ◌≤◌, ◌<�
 use native.Mathlib.Nat.{mod-add-mod}
 use native.Mathlib.Omega.{arith}
 use Rattle.octets.proofs.Tests.{clash}
+use Rattle.std.proofs.Common.{Option, Some, None, Result, Ok}
 use Rattle.fetch_word.specs.Bits.{row}
 use Rattle.fetch_word.specs.Run.{received_first, missing_first}
 use Rattle.fetch_word.proofs.BitLaws.{row_alike}
+use Rattle.fetch_told.specs.Told.{span}
 use Rattle.fetch_map.specs.Map.{received_b, ones_of}
-use Rattle.fetch_map.specs.declared.count.Tally.TheVariants.{Received}
+use Rattle.fetch_map.specs.declared.refusal.Refusal.{Refusal}
 use Rattle.fetch_map.proofs.MapLaws.{received_done}
 use Rattle.fetch_propose.specs.Propose.{number_at, numbers_from, run_after, run_among, proposed_in, propose_of}
-use Rattle.fetch_propose.specs.declared.propose.Proposal.TheVariants.{Missing, NothingMissing}
-use Rattle.fetch_propose.proofs.ProposeLaws.{propose_done}
+use Rattle.fetch_propose.proofs.ProposeLaws.{answered, answered_is, same_ends, propose_done}
 use Rattle.fetch_propose.proofs.SearchLaws.{run_missing}
 use Rattle.theorems_fetch.specs.History.{range, number_of, told_of, tell, take, propose, map_of, last_of, held_b, kept_b, count_b, FirstRun, KeptIn, KeptBelow}
 use Rattle.theorems_fetch.proofs.RangeLaws.{held_reads, held_makes, not_held, told_some, range_size_lem, inside_near, outside_none}
@@ -29,28 +30,27 @@ in_row f kept i = kept (f + i)
 
 -- ---- the run proposed, by the first gap among the h records from f on
 
-some_missing : (o b n : ℕ) → run_after o b (suc n) ≡ Missing (number_at o b) (number_at o (b + n))
+some_missing : (o b n : ℕ) → run_after o b (suc n) ≡ Some (span (number_at o b) (number_at o (b + n)))
 some_missing o b n =
     let e : b + suc n - 1 ≡ b + n = omega arith in
-    sym (run_missing o b (suc n) (λ z. omega arith)) ∙ ap (λ (k : ℕ). Missing (number_at o b) (number_at o k)) e
+    sym (run_missing o b (suc n) (λ z. omega arith)) ∙ ap (λ (k : ℕ). Some (span (number_at o b) (number_at o k))) e
 
 module _ (f h : ℕ) (kept : ℕ → Bool) where
   -- what the row says of a record
   of_row : (i k : ℕ) (t : Bool) → f + i ≡ k → in_row f kept i ≡ t → kept k ≡ t
   of_row i k t e p = ap kept (sym e) ∙ p
 
-  run_by : (b n x y : ℕ) → Gap (in_row f kept) h b n → run_after (number_of f) b n ≡ Missing x y → FirstRun (range f h) kept x y
+  run_by : (b n x y : ℕ) → Gap (in_row f kept) h b n → run_after (number_of f) b n ≡ Some (span x y) → FirstRun (range f h) kept x y
   unfolding run_after
   run_by b zero x y g e = absurd (let z : ◌≡◌ {A = ℕ} 0 1 = cc in omega arith)
   run_by b (suc n) x y g e =
       let found = some_missing (number_of f) b n in
-      let first_is : x ≡ number_at (number_of f) b = cc in
-      let last_is : y ≡ number_at (number_of f) (b + n) = cc in
+      let ends = same_ends _ _ _ _ (sym e ∙ found) in
       record {
         first = f + b;
         last = f + (b + n);
-        from = first_is ∙ mod-add-mod f 65536 b;
-        to = last_is ∙ mod-add-mod f 65536 (b + n);
+        from = ends.0 ∙ mod-add-mod f 65536 b;
+        to = ends.1 ∙ mod-add-mod f 65536 (b + n);
         some = omega arith;
         first_held = held_makes (range f h) (f + b) (omega arith) (omega arith);
         last_held = held_makes (range f h) (f + (b + n)) (omega arith) (omega arith);
@@ -59,14 +59,14 @@ module _ (f h : ℕ) (kept : ℕ → Bool) where
         ends = λ t. let p = held_reads (range f h) (f + (b + n) + 1) t in of_row (b + suc n) (f + (b + n) + 1) true (omega arith) (g.ends (omega arith));
       }
 
-  all_by : (b n : ℕ) → Gap (in_row f kept) h b n → run_after (number_of f) b n ≡ NothingMissing → (k : ℕ) → held_b (range f h) k ≡ true → kept k ≡ true
+  all_by : (b n : ℕ) → Gap (in_row f kept) h b n → run_after (number_of f) b n ≡ None → (k : ℕ) → held_b (range f h) k ≡ true → kept k ≡ true
   all_by b zero g e k t =
       let p = held_reads (range f h) k t in
       let full = g.none refl in
       of_row (k - f) k true (omega arith) (g.received (k - f) (omega arith))
   all_by b (suc n) g e k t = cc (some_missing (number_of f) b n)
 
-  nothing_by : (b n : ℕ) → Gap (in_row f kept) h b n → ((k : ℕ) → held_b (range f h) k ≡ true → kept k ≡ true) → run_after (number_of f) b n ≡ NothingMissing
+  nothing_by : (b n : ℕ) → Gap (in_row f kept) h b n → ((k : ℕ) → held_b (range f h) k ≡ true → kept k ≡ true) → run_after (number_of f) b n ≡ None
   unfolding run_after
   nothing_by b zero g all = refl
   nothing_by b (suc n) g all =
@@ -111,16 +111,16 @@ answers m f h kept a =
     let b = before (in_row f kept) h in
     let n = gap (in_row f kept) h in
     let g = first_gap (in_row f kept) h in
-    let found : propose_of m (told_of (range f h)) ≡ run_after (number_of f) b n =
-    sym (propose_done m (told_of (range f h)) a.words) ∙ proposed m f h a.slots ∙ run_in m f h kept a in
+    let found : propose_of m (told_of (range f h)) ≡ answered (run_after (number_of f) b n) =
+    sym (propose_done m (told_of (range f h)) a.words) ∙ ap answered (proposed m f h a.slots ∙ run_in m f h kept a) in
     record {
       words = a.words;
       bit = a.bit;
       clear = λ s l none. a.clear s l (outside_none (range f h) s (omega arith) l none);
-      run = λ x y e. run_by f h kept b n x y g (sym found ∙ e);
-      all_kept = λ e. all_by f h kept b n g (sym found ∙ e);
-      nothing_missing = λ all. found ∙ nothing_by f h kept b n g all;
-      count = sym (received_done m a.words) ∙ ap Received (ones m f h kept a);
+      run = λ x y e. run_by f h kept b n x y g (answered_is _ _ (sym found ∙ e));
+      all_kept = λ e. all_by f h kept b n g (answered_is _ _ (sym found ∙ e));
+      nothing_missing = λ all. found ∙ ap answered (nothing_by f h kept b n g all);
+      count = sym (received_done m a.words) ∙ ap (λ (n : ℕ). let r : Result ℕ Refusal = Ok n in r) (ones m f h kept a);
     }
 
 pub kept_below : (n : ℕ) → n ≤ 64514 → KeptBelow n tell take propose

@@ -9,9 +9,9 @@ use lib.Dec.{leb, ltb, eqb-suc-zero}
 use Rattle.octets.specs.Choice.{pick}
 use Rattle.octets.proofs.Tests.{both_yes, both_reads, false_by}
 use Rattle.filter.specs.Filter.{place_by_age}
-use Rattle.fetch_told.specs.Told.{inside_b, range_size}
-use Rattle.fetch_told.specs.declared.told.Told.{Told}
-use Rattle.fetch_told.specs.declared.told.Told.TheVariants.{None, Held}
+use Rattle.std.proofs.Common.{Option, Some, None}
+use Rattle.fetch_told.specs.Told.{span, inside_b, range_size}
+use Rattle.fetch_told.specs.declared.told.Span.{Span}
 use Rattle.theorems_fetch.specs.History.{Range, range, next, number_of, told_of, held_b}
 
 -- ---- held, read and made
@@ -43,8 +43,8 @@ place_before f k h l = omega arith
 -- ---- the range of h + 1 records from f on, as it is told
 
 module _ (f h : ℕ) where
-  pub told_some : told_of (range f (suc h)) ≡ Held (number_of f) (number_of (f + suc h - 1))
-  told_some = ap (λ (t : Bool). pick t None (Held (number_of f) (number_of (f + suc h - 1)))) (eqb-suc-zero h)
+  pub told_some : told_of (range f (suc h)) ≡ Some (span (number_of f) (number_of (f + suc h - 1)))
+  told_some = ap (λ (t : Bool). pick t None (Some (span (number_of f) (number_of (f + suc h - 1))))) (eqb-suc-zero h)
 
   module _ (few : h < 65536) where
     newest_place : place_by_age (number_of f) (number_of (f + suc h - 1)) ≡ h
@@ -56,7 +56,7 @@ module _ (f h : ℕ) where
 
     inside_some : (s : ℕ) → inside_b (told_of (range f (suc h))) s ≡ leb (place_by_age (number_of f) s) h
     unfolding inside_b
-    inside_some s = ap (λ (told : Told). inside_b told s) told_some ∙ ap (leb (place_by_age (number_of f) s)) newest_place
+    inside_some s = ap (λ (told : Option Span). inside_b told s) told_some ∙ ap (leb (place_by_age (number_of f) s)) newest_place
 
 -- ---- inside, by records
 

@@ -1,12 +1,10 @@
 -- Computed cases of the theorem Kept: its premises can hold, and what it says is then no empty word.
-use Rattle.std.specs.Prelude.{◌≡◌, Bool, true, false, List, [], ◌∷◌, ◌++◌, ℕ, ◌+◌}
+use Rattle.std.specs.Prelude.{◌≡◌, Bool, true, false, List, [], ◌∷◌, ◌++◌, Some, None, Ok, ℕ, ◌+◌}
 use Rattle.fetch_word.specs.Bits.{bit_b, bits_of, word_of, with_bit, row}
 use Rattle.fetch_word.specs.Run.{received_first, missing_first}
-use Rattle.fetch_told.specs.Told.{inside_b, range_size}
+use Rattle.fetch_told.specs.Told.{span, inside_b, range_size}
 use Rattle.fetch_map.specs.Map.{received_b, inside_from, tell_of, taken_in, take_of}
-use Rattle.fetch_propose.specs.Propose.{numbers_from, run_after, run_among, propose_of}
-use Rattle.fetch_propose.specs.declared.propose.Proposal.{Proposal}
-use Rattle.fetch_propose.specs.declared.propose.Proposal.TheVariants.{Missing, NothingMissing}
+use Rattle.fetch_propose.specs.Propose.{numbers_from, run_after, run_among, Proposal, propose_of}
 use Rattle.theorems_fetch.specs.History.{range, Step, telling, taking, number_of, told_of, Tell, Take, tell, take, last_from, map_from, new_map, last_of, map_of, kept_from, kept_b, presumed, Fair}
 
 -- is the number of a record received after a history, by a way of telling and of taking in?
@@ -53,9 +51,9 @@ emptied = next_evening ++ telling (range 65540 0) ∷ []
 
 pub record Computed : Type 0 where
   pub fair : Fair presumed emptied
-  pub none_told : answers_after [] ≡ answers (false ∷ false ∷ false ∷ false ∷ false ∷ false ∷ []) NothingMissing
-  pub all_missing : answers_after told_first ≡ answers (false ∷ false ∷ false ∷ false ∷ false ∷ false ∷ []) (Missing 65534 1)
-  pub one_missing : answers_after first_evening ≡ answers (false ∷ true ∷ false ∷ true ∷ false ∷ false ∷ []) (Missing 65535 65535)
-  pub stayed : answers_after told_next ≡ answers (false ∷ false ∷ false ∷ true ∷ false ∷ false ∷ []) (Missing 1 3)
-  pub nothing_missing : answers_after next_evening ≡ answers (false ∷ false ∷ false ∷ true ∷ true ∷ true ∷ []) NothingMissing
-  pub none_held : answers_after emptied ≡ answers (false ∷ false ∷ false ∷ false ∷ false ∷ false ∷ []) NothingMissing
+  pub none_told : answers_after [] ≡ answers (false ∷ false ∷ false ∷ false ∷ false ∷ false ∷ []) (Ok None)
+  pub all_missing : answers_after told_first ≡ answers (false ∷ false ∷ false ∷ false ∷ false ∷ false ∷ []) (Ok (Some (span 65534 1)))
+  pub one_missing : answers_after first_evening ≡ answers (false ∷ true ∷ false ∷ true ∷ false ∷ false ∷ []) (Ok (Some (span 65535 65535)))
+  pub stayed : answers_after told_next ≡ answers (false ∷ false ∷ false ∷ true ∷ false ∷ false ∷ []) (Ok (Some (span 1 3)))
+  pub nothing_missing : answers_after next_evening ≡ answers (false ∷ false ∷ false ∷ true ∷ true ∷ true ∷ []) (Ok None)
+  pub none_held : answers_after emptied ≡ answers (false ∷ false ∷ false ∷ false ∷ false ∷ false ∷ []) (Ok None)

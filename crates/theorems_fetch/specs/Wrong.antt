@@ -1,10 +1,9 @@
 -- Wrong ways to tell, to take in and to propose, which the theorem Kept shuts out.
-use Rattle.std.specs.Prelude.{◌++◌, ltb}
+use Rattle.std.specs.Prelude.{◌++◌, Some, None, Ok, Err, ltb}
 use Rattle.octets.specs.Choice.{pick}
 use Rattle.octets.specs.Parts.{part}
-use Rattle.fetch_told.specs.declared.told.Told.TheVariants.{Held}
-use Rattle.fetch_propose.specs.declared.propose.Proposal.{Proposal}
-use Rattle.fetch_propose.specs.declared.propose.Proposal.TheVariants.{Missing, NothingMissing, WrongWords}
+use Rattle.fetch_told.specs.Told.{span}
+use Rattle.fetch_propose.specs.Propose.{Proposal}
 use Rattle.theorems_fetch.specs.History.{Tell, Take, Propose, tell, take, propose, new_map, presumed, KeptBelow}
 
 -- bits outside the told range are kept
@@ -21,13 +20,13 @@ but_the_last m told = part (tell m told) 0 1023 ++ part m 1023 1
 
 -- a record outside the told range is taken in: as if all numbers were told
 abbrev pub anywhere : Take
-anywhere m told s = take m (Held 0 65535) s
+anywhere m told s = take m (Some (span 0 65535)) s
 
 -- a run is cut at 65,535
 abbrev pub cut_off : Proposal → Proposal
-cut_off (Missing a b) = pick (ltb b a) (Missing a 65535) (Missing a b)
-cut_off NothingMissing = NothingMissing
-cut_off WrongWords = WrongWords
+cut_off (Ok (Some run)) = pick (ltb run.last run.first) (Ok (Some (span run.first 65535))) (Ok (Some run))
+cut_off (Ok None) = Ok None
+cut_off (Err why) = Err why
 
 abbrev pub cutting : Propose
 cutting m told = cut_off (propose m told)

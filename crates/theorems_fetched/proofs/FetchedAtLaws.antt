@@ -18,19 +18,15 @@ use Rattle.filter.specs.declared.filter.Filter.TheVariants.{Range}
 use Rattle.record.specs.Fields.{sequence_of}
 use Rattle.record.specs.declared.kinds.Record.{Record}
 use Rattle.record.specs.declared.kinds.Record.TheVariants.{TimeUpdate, TimeFault}
-use Rattle.record.specs.declared.kinds.Reading.{Reading}
-use Rattle.record.specs.declared.kinds.Reading.TheVariants.{Is, Refused}
 use Rattle.table.specs.Table.{count, first, sound_b}
 use Rattle.joining.specs.Joining.{empty_joining}
-use Rattle.fetch_told.specs.Told.{inside_b}
-use Rattle.fetch_told.specs.declared.told.Told.{Told}
-use Rattle.fetch_told.specs.declared.told.Told.TheVariants.{Held}
+use Rattle.std.proofs.Common.{Option, Some, None, Ok}
+use Rattle.fetch_told.specs.Told.{span, inside_b}
+use Rattle.fetch_told.specs.declared.told.Span.{Span}
 use Rattle.fetch_map.specs.Map.{map_words, inside_from, take_of, mapped_number}
 use Rattle.fetch_map.proofs.MapLaws.{inside_length, tell_done}
 use Rattle.fetch_map.proofs.ReceivedLaws.{tell_bit, both_true}
-use Rattle.fetch_propose.specs.Propose.{number_at, propose_of}
-use Rattle.fetch_propose.specs.declared.propose.Proposal.{Proposal}
-use Rattle.fetch_propose.specs.declared.propose.Proposal.TheVariants.{NothingMissing}
+use Rattle.fetch_propose.specs.Propose.{number_at, Proposal, propose_of}
 use Rattle.tablet_bytes.specs.Calls.{fields_in}
 use Rattle.fetch_bytes.specs.Told.{told_at, range_of, told_numbers, told_after}
 use Rattle.fetch_bytes.specs.Request.{request_bytes, request_after}
@@ -57,13 +53,13 @@ unfolding fields_in sequence_of
 number_shown (TimeUpdate u) = refl
 number_shown (TimeFault f) = refl
 
-takes_shown : (e n : List ℕ) (l : List Reading) (m : List ℕ) → take_all_at n m (map (numbers_of e) l) ≡ take_readings (told_at n) m l
+takes_shown : (e n : List ℕ) (l : List (Option Record)) (m : List ℕ) → take_all_at n m (map (numbers_of e) l) ≡ take_readings (told_at n) m l
 unfolding take_all_at take_readings take_at
 takes_shown e n [] m = refl
-takes_shown e n (Is r ∷ l) m =
+takes_shown e n (Some r ∷ l) m =
     ap (λ (s : ℕ). take_all_at n (take_of m (told_at n) s).map (map (numbers_of e) l)) (number_shown r)
     ∙ takes_shown e n l (take_of m (told_at n) (sequence_of r)).map
-takes_shown e n (Refused ∷ l) m = takes_shown e n l m
+takes_shown e n (None ∷ l) m = takes_shown e n l m
 
 fetched_is : (e n m : List ℕ) (notes : List (List ℕ)) → fetched_at e n m notes ≡ fetched (told_at n) m notes
 fetched_is e n m notes =
@@ -92,10 +88,10 @@ module _ (v : World) (x : Fit v) (m : List ℕ) (g : ℕ) (whole : length m ≡ 
 
   -- the map and the three numbers after the telling
   abbrev inside : List ℕ
-  inside = inside_from (Held (first t) b) 0 m
+  inside = inside_from (Some (span (first t) b)) 0 m
 
   abbrev range : List ℕ
-  range = told_numbers (Held (first t) b)
+  range = told_numbers (Some (span (first t) b))
 
   is_told : told_at range ≡ told_by t
   unfolding told_at told_numbers
@@ -104,16 +100,16 @@ module _ (v : World) (x : Fit v) (m : List ℕ) (g : ℕ) (whole : length m ≡ 
   tells : (before : List ℕ) (any : ℕ) → 0 < any → tell_at m before any (first t) b ≡ told (pos 0) inside range
   unfolding tell_at range_of mapped_result mapped_number told_after
   tells before any some =
-      rw (ne_eqb any 0 (λ e. omega arith), sym (tell_done m (Held (first t) b) whole))
+      rw (ne_eqb any 0 (λ e. omega arith), sym (tell_done m (Some (span (first t) b)) whole))
 
   still_first : FirstReceived g t inside
   still_first k l =
-      tell_bit (Held (first t) b) m (number_at (first t) k) whole (omega arith)
-      ∙ ap₂ both (firsts k l) (ap (λ (r : Told). inside_b r (number_at (first t) k)) (sym (told_held t m sd (omega arith))) ∙ inside_told t sd k l)
+      tell_bit (Some (span (first t) b)) m (number_at (first t) k) whole (omega arith)
+      ∙ ap₂ both (firsts k l) (ap (λ (r : Option Span). inside_b r (number_at (first t) k)) (sym (told_held t m sd (omega arith))) ∙ inside_told t sd k l)
       ∙ both_true (ltb k g)
 
   whole_inside : length inside ≡ map_words
-  whole_inside = inside_length (Held (first t) b) 0 m ∙ whole
+  whole_inside = inside_length (Some (span (first t) b)) 0 m ∙ whole
 
   asked_for : (request : List ℕ) → propose_at inside range request ≡ proposed (pos 7) (request_bytes a b)
   unfolding propose_at proposal_result request_after
@@ -138,7 +134,7 @@ module _ (v : World) (x : Fit v) (m : List ℕ) (g : ℕ) (whole : length m ≡ 
     unfolding newest_number
     accepted = accepted_is v w o hw (Range a b) x (record { asked = asks_for_run a b (omega arith) (omega arith); zero = zero })
 
-    nothing_missing : propose_of (fetched (told_by t) inside heard) (told_by t) ≡ NothingMissing
+    nothing_missing : propose_of (fetched (told_by t) inside heard) (told_by t) ≡ Ok None
     nothing_missing =
         ((fetches_rest v o (calls_of ks) inside g x.good.bytes sd whole_inside h still_first).1
         accepted (undisturbed v w o hw (Range a b) ks x accepted quiet) (ap (λ (y : Hearing). y.closed) (sym (heard_is v w o hw ks x)) ∙ closed)).nothing
@@ -148,7 +144,7 @@ module _ (v : World) (x : Fit v) (m : List ℕ) (g : ℕ) (whole : length m ≡ 
     answers_0 =
         ap (λ (y : List ℕ). proposal_result (propose_of y (told_at range)))
         (fetched_is e range inside _ ∙ ap (λ (y : Hearing). fetched (told_at range) inside y.notes) (heard_is v w o hw ks x))
-        ∙ ap (λ (y : Told). proposal_result (propose_of (fetched y inside heard) y)) is_told
+        ∙ ap (λ (y : Option Span). proposal_result (propose_of (fetched y inside heard) y)) is_told
         ∙ ap proposal_result nothing_missing
 
   at_image : (before request : List ℕ) (any : ℕ) → 0 < any → ToldRestAt (image_in v) request (tell_at m before any (first t) b)

@@ -12,8 +12,6 @@ use lib.Seq.{take_all}
 use Rattle.octets.specs.Choice.{either}
 use Rattle.octets.specs.Parts.{Bytes}
 use Rattle.octets.proofs.NumberLaws.{two}
-use Rattle.record.specs.declared.kinds.Reading.{Reading}
-use Rattle.record.specs.declared.kinds.Reading.TheVariants.{Is}
 use Rattle.filter.specs.declared.filter.Filter.TheVariants.{Range}
 use Rattle.table.specs.Table.{count, first, next, held, age_of, sound_b}
 use Rattle.table.proofs.HeadLaws.{sound_head}
@@ -22,12 +20,10 @@ use Rattle.table_write.proofs.HistoryLaws.{length_held}
 use Rattle.table_look.specs.Matching.{matching}
 use Rattle.table_look.proofs.NumberLaws.{by_number}
 use Rattle.racp_request.specs.Request.{operand_bytes, typed_b, filter_at, filter_operand, asked_of, request_of}
-use Rattle.racp_request.specs.declared.request.Request.TheVariants.{Report}
-use Rattle.fetch_told.specs.Told.{inside_b}
+use Rattle.std.proofs.Common.{Some, None, Ok, Option}
+use Rattle.fetch_told.specs.Told.{span, inside_b}
 use Rattle.fetch_map.specs.Map.{map_words, received_b}
 use Rattle.fetch_propose.specs.Propose.{number_at, propose_of}
-use Rattle.fetch_told.specs.declared.told.Told.TheVariants.{Held}
-use Rattle.fetch_propose.specs.declared.propose.Proposal.TheVariants.{NothingMissing}
 use Rattle.fetch_bytes.specs.Request.{request_bytes}
 use Rattle.theorems_reports.specs.World.{World, Call}
 use Rattle.theorems_reports.specs.Reports.{Accepted, report_begun}
@@ -39,10 +35,12 @@ use Rattle.theorems_copies.proofs.CopyLaws.{goes_on}
 use Rattle.theorems_fetched.specs.Fetched.{newest_number, told_by, take_readings, fetched, AsksForRun, FetchedRun, FetchesRun, FetchesRest}
 use Rattle.theorems_fetched.proofs.ProposalLaws.{RunOf, missing_whole, missing_run, proposes_rest, proposes_nothing}
 use Rattle.theorems_fetched.proofs.TakenLaws.{Took, within_b, within_yes, place_back, inside_run, takes}
+use Rattle.racp_request.specs.declared.request.Request.TheVariants.{Report}
+use Rattle.record.specs.declared.kinds.Record.{Record}
 
 pub asks_for_run : AsksForRun
 unfolding operand_bytes typed_b filter_at filter_operand asked_of request_of request_bytes
-asks_for_run a b ha hb = ap₂ (λ (x y : ℕ). Report (Range x y)) (two a ha) (two b hb)
+asks_for_run a b ha hb = ap₂ (λ (x y : ℕ). (Ok (Report (Range x y)))) (two a ha) (two b hb)
 
 -- a test or one that holds
 either_all : (b : Bool) → either b true ≡ true
@@ -80,7 +78,7 @@ module _ (v : World) (m : List ℕ) (a b : ℕ) (sd : sound_b v.table ≡ true) 
         received = λ s small.
             took.received s small
             ∙ ap (either (received_b m s))
-            (sym (ap₂ (λ (x y : ℕ). inside_b (Held x y) s) r.first r.last ∙ inside_run (first t) k n s (first_small t) small r.some few));
+            (sym (ap₂ (λ (x y : ℕ). inside_b (Some (span x y)) s) r.first r.last ∙ inside_run (first t) k n s (first_small t) small r.some few));
       }
 
   -- the report heard to its end, asked for by the run's bytes
@@ -92,8 +90,8 @@ module _ (v : World) (m : List ℕ) (a b : ℕ) (sd : sound_b v.table ≡ true) 
     took : Took t m k n (fetched (told_by t) m notes)
     took =
         let joined = ((heard_report v (request_bytes a b) o (Range a b) ks hb accepted calm).finished closed).joined in
-        let readings = ap (λ (g : Got). g.records) joined ∙ ap (map Is) run_matches in
-        subst (λ (l : List Reading). Took t m k n (take_readings (told_by t) m l)) (sym readings) (takes t sd n k m whole r.inside)
+        let readings = ap (λ (g : Got). g.records) joined ∙ ap (map Some) run_matches in
+        subst (λ (l : List (Option Record)). Took t m k n (take_readings (told_by t) m l)) (sym readings) (takes t sd n k m whole r.inside)
 
     -- where the run goes to the newest number, and all before it is received
     module _ (to-newest : k + n ≡ count t) (before : (i : ℕ) → i < k → received_b m (number_at (first t) i) ≡ true) where
@@ -108,7 +106,7 @@ module _ (v : World) (m : List ℕ) (a b : ℕ) (sd : sound_b v.table ≡ true) 
           go true e = rw (before i (ltb-true i k e))
           go false e = rw (within_yes k n i (ltb-false i k e) (omega arith)) (either_all (received_b m (number_at (first t) i)))
 
-      nothing : propose_of (fetched (told_by t) m notes) (told_by t) ≡ NothingMissing
+      nothing : propose_of (fetched (told_by t) m notes) (told_by t) ≡ Ok None
       nothing = proposes_nothing t (fetched (told_by t) m notes) sd (omega (arith, r.some)) took.words all_received
 
       went_on : (u : List ℕ) → Bytes u → sound_b u ≡ true → next u ≡ a → let c = kept_in u notes in (c.fine ≡ true) × WentOn t u c.table

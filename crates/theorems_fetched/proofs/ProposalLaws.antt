@@ -17,13 +17,13 @@ use Rattle.fetch_word.specs.Bits.{row}
 use Rattle.fetch_word.specs.Run.{received_first, missing_first}
 use Rattle.fetch_word.proofs.BitLaws.{row_length}
 use Rattle.fetch_word.proofs.RunLaws.{missing_most, received_most}
-use Rattle.fetch_told.specs.Told.{range_size}
+use Rattle.std.proofs.Common.{Option, Some, None, Ok, Err}
+use Rattle.fetch_told.specs.Told.{span, range_size}
 use Rattle.fetch_map.specs.Map.{map_words, received_b}
 use Rattle.fetch_propose.specs.Propose.{number_at, numbers_from, run_after, run_among, propose_of, proposed_in}
-use Rattle.fetch_told.specs.declared.told.Told.{Told}
-use Rattle.fetch_told.specs.declared.told.Told.TheVariants.{None, Held}
-use Rattle.fetch_propose.specs.declared.propose.Proposal.TheVariants.{Missing, NothingMissing, WrongWords}
-use Rattle.fetch_propose.proofs.ProposeLaws.{propose_done}
+use Rattle.fetch_told.specs.declared.told.Span.{Span}
+use Rattle.fetch_map.specs.declared.refusal.Refusal.TheVariants.{WrongWords}
+use Rattle.fetch_propose.proofs.ProposeLaws.{answered, answered_is, same_ends, propose_done}
 use Rattle.fetch_propose.proofs.SearchLaws.{run_nothing, run_missing}
 use Rattle.theorems_fetched.specs.Fetched.{newest_number, told_by}
 
@@ -66,7 +66,7 @@ pub record RunOf (oldest n a b : ℕ) : Type 0 where
   pub first : a ≡ number_at oldest before
   pub last : b ≡ number_at oldest (before + size - 1)
 
-run_is : (oldest a b : ℕ) (l : List Bool) → run_among oldest l ≡ Missing a b → RunOf oldest (length l) a b
+run_is : (oldest a b : ℕ) (l : List Bool) → run_among oldest l ≡ Some (span a b) → RunOf oldest (length l) a b
 unfolding run_among run_after
 run_is oldest a b l e = go (eqb r 0) refl e
   where
@@ -76,41 +76,42 @@ run_is oldest a b l e = go (eqb r 0) refl e
     r : ℕ
     r = missing_first (drop (received_first l) l)
 
-    go : (z : Bool) → eqb r 0 ≡ z → pick z NothingMissing (Missing (number_at oldest g) (number_at oldest (g + r - 1))) ≡ Missing a b
+    go : (z : Bool) → eqb r 0 ≡ z → pick z None (Some (span (number_at oldest g) (number_at oldest (g + r - 1)))) ≡ Some (span a b)
         → RunOf oldest (length l) a b
     go true p q = let z : ◌≡◌ {A = ℕ} 0 1 = cc in absurd (omega arith)
     go false p q =
+        let ends = same_ends _ _ _ _ (sym q) in
         record {
           before = g;
           size = r;
           some = omega (arith, eqb-false r 0 p);
           inside = omega (arith, received_most l, missing_most (drop g l), length-drop g l);
-          first = cc;
-          last = cc;
+          first = ends.0;
+          last = ends.1;
         }
 
 -- ---- a proposal of what a table holds
 
 -- a run is proposed of a whole map only, and where something is told
-pub missing_whole : (m : List ℕ) (told : Told) (a b : ℕ) → propose_of m told ≡ Missing a b → length m ≡ map_words
+pub missing_whole : (m : List ℕ) (told : Option Span) (a b : ℕ) → propose_of m told ≡ Ok (Some (span a b)) → length m ≡ map_words
 unfolding propose_of
 missing_whole m told a b e = go (eqb (length m) map_words) refl e
   where
-    go : (w : Bool) → eqb (length m) map_words ≡ w → pick w (proposed_in m told) WrongWords ≡ Missing a b → length m ≡ map_words
+    go : (w : Bool) → eqb (length m) map_words ≡ w → pick w (answered (proposed_in m told)) (Err WrongWords) ≡ Ok (Some (span a b)) → length m ≡ map_words
     go true p q = eqb-true (length m) map_words p
     go false p q = let z : ◌≡◌ {A = ℕ} 0 1 = cc in absurd (omega arith)
 
-missing_some : (m t : List ℕ) (a b : ℕ) → propose_of m (told_by t) ≡ Missing a b → 0 < count t
+missing_some : (m t : List ℕ) (a b : ℕ) → propose_of m (told_by t) ≡ Ok (Some (span a b)) → 0 < count t
 unfolding told_by
-missing_some m t a b e = go (eqb (count t) 0) refl (propose_done m (told_by t) (missing_whole m (told_by t) a b e) ∙ e)
+missing_some m t a b e = go (eqb (count t) 0) refl (answered_is _ _ (propose_done m (told_by t) (missing_whole m (told_by t) a b e) ∙ e))
   where
-    go : (n : Bool) → eqb (count t) 0 ≡ n → proposed_in m (pick n None (Held (first t) (newest_number t))) ≡ Missing a b → 0 < count t
+    go : (n : Bool) → eqb (count t) 0 ≡ n → proposed_in m (pick n None (Some (span (first t) (newest_number t)))) ≡ Some (span a b) → 0 < count t
     go true p q = let z : ◌≡◌ {A = ℕ} 0 1 = cc in absurd (omega arith)
     go false p q = omega (arith, eqb-false (count t) 0 p)
 
 -- a table that holds something: its numbers in a row, of the map m
 module _ (t m : List ℕ) (sd : sound_b t ≡ true) (some : 0 < count t) where
-  pub told_held : told_by t ≡ Held (first t) (newest_number t)
+  pub told_held : told_by t ≡ Some (span (first t) (newest_number t))
   unfolding told_by
   told_held = rw (ne_eqb (count t) 0 (λ e. omega arith))
 
@@ -124,37 +125,36 @@ module _ (t m : List ℕ) (sd : sound_b t ≡ true) (some : 0 < count t) where
   abbrev is_received : ℕ → Bool
   is_received k = received_b m (number_at (first t) k)
 
-  proposed_of : length m ≡ map_words → propose_of m (told_by t) ≡ run_among (first t) (row is_received (count t))
+  proposed_of : length m ≡ map_words → propose_of m (told_by t) ≡ Ok (run_among (first t) (row is_received (count t)))
   unfolding numbers_from
   proposed_of whole =
       sym (propose_done m (told_by t) whole)
-      ∙ ap (proposed_in m) told_held
-      ∙ ap (λ (n : ℕ). run_among (first t) (numbers_from m (first t) n)) told_size
+      ∙ ap answered (ap (proposed_in m) told_held ∙ ap (λ (n : ℕ). run_among (first t) (numbers_from m (first t) n)) told_size)
 
   proposes_first : length m ≡ map_words → (g : ℕ) → g ≤ count t → ((k : ℕ) → k < g → is_received k ≡ true)
-      → ((k : ℕ) → g ≤ k → k < count t → is_received k ≡ false) → propose_of m (told_by t) ≡ run_after (first t) g (count t - g)
-  proposes_first whole g few full free = proposed_of whole ∙ run_of (first t) is_received g (count t) few full free
+      → ((k : ℕ) → g ≤ k → k < count t → is_received k ≡ false) → propose_of m (told_by t) ≡ Ok (run_after (first t) g (count t - g))
+  proposes_first whole g few full free = proposed_of whole ∙ ap answered (run_of (first t) is_received g (count t) few full free)
 
   -- all that comes after the first g numbers, where these are received and no other
   pub proposes_rest : length m ≡ map_words → (g : ℕ) → g < count t → ((k : ℕ) → k < g → is_received k ≡ true)
-      → ((k : ℕ) → g ≤ k → k < count t → is_received k ≡ false) → propose_of m (told_by t) ≡ Missing (number_at (first t) g) (newest_number t)
+      → ((k : ℕ) → g ≤ k → k < count t → is_received k ≡ false) → propose_of m (told_by t) ≡ Ok (Some (span (number_at (first t) g) (newest_number t)))
   unfolding newest_number
   proposes_rest whole g few full free =
       let e : g + (count t - g) - 1 ≡ count t - 1 = omega arith in
       proposes_first whole g (omega arith) full free
-      ∙ sym (run_missing (first t) g (count t - g) (λ z. omega arith))
-      ∙ ap (λ (k : ℕ). Missing (number_at (first t) g) (number_at (first t) k)) e
+      ∙ ap answered
+      (sym (run_missing (first t) g (count t - g) (λ z. omega arith)) ∙ ap (λ (k : ℕ). Some (span (number_at (first t) g) (number_at (first t) k))) e)
 
   -- nothing, where all are received
-  pub proposes_nothing : length m ≡ map_words → ((k : ℕ) → k < count t → is_received k ≡ true) → propose_of m (told_by t) ≡ NothingMissing
+  pub proposes_nothing : length m ≡ map_words → ((k : ℕ) → k < count t → is_received k ≡ true) → propose_of m (told_by t) ≡ Ok None
   proposes_nothing whole full =
       proposes_first whole (count t) (omega arith) full (λ k a b. absurd (omega arith))
-      ∙ sym (run_nothing (first t) (count t) (count t - count t) (omega arith))
+      ∙ ap answered (sym (run_nothing (first t) (count t) (count t - count t) (omega arith)))
 
 -- the proposed run of a table's numbers
-pub missing_run : (t m : List ℕ) (a b : ℕ) → sound_b t ≡ true → propose_of m (told_by t) ≡ Missing a b → RunOf (first t) (count t) a b
+pub missing_run : (t m : List ℕ) (a b : ℕ) → sound_b t ≡ true → propose_of m (told_by t) ≡ Ok (Some (span a b)) → RunOf (first t) (count t) a b
 missing_run t m a b sd e =
     let some = missing_some m t a b e in
     let l = row (λ k. received_b m (number_at (first t) k)) (count t) in
     rw (row_length (λ k. received_b m (number_at (first t) k)) (count t))
-    at (run_is (first t) a b l (sym (proposed_of t m sd some (missing_whole m (told_by t) a b e)) ∙ e))
+    at (run_is (first t) a b l (answered_is _ _ (sym (proposed_of t m sd some (missing_whole m (told_by t) a b e)) ∙ e)))

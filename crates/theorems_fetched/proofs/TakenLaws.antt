@@ -10,17 +10,16 @@ use lib.Dec.{leb, ltb, eqb}
 use lib.ListN.{length, take, drop}
 use Rattle.octets.specs.Choice.{both, either}
 use Rattle.record.specs.Fields.{sequence_of}
-use Rattle.record.specs.declared.kinds.Reading.TheVariants.{Is}
 use Rattle.filter.specs.Filter.{place_by_age}
 use Rattle.table.specs.Table.{count, first, held, age_of, record_in, sound_b}
 use Rattle.table.proofs.HeadLaws.{sound_head}
 use Rattle.table.proofs.SlotLaws.{slot_at, first_small}
 use Rattle.table_look.proofs.LookLaws.{drop_held, number_at_lem}
-use Rattle.fetch_told.specs.Told.{inside_b}
+use Rattle.std.proofs.Common.{Option, Some}
+use Rattle.fetch_told.specs.Told.{span, inside_b}
 use Rattle.fetch_map.specs.Map.{Mapping, map_words, received_b, taken_in, take_of}
 use Rattle.fetch_propose.specs.Propose.{number_at}
-use Rattle.fetch_told.specs.declared.told.Told.{Told}
-use Rattle.fetch_told.specs.declared.told.Told.TheVariants.{Held}
+use Rattle.fetch_told.specs.declared.told.Span.{Span}
 use Rattle.fetch_map.proofs.MapLaws.{take_done}
 use Rattle.fetch_map.proofs.ReceivedLaws.{take_bit, take_words, either_false, both_true}
 use Rattle.theorems_fetched.specs.Fetched.{newest_number, told_by, take_readings}
@@ -87,7 +86,7 @@ place_from f k s hf hk hs = go (ltb (f + k) 65536) (ltb s f) refl refl
 
 -- the run that has the n numbers from the place k on, of numbers that begin with f
 pub inside_run : (f k n s : ℕ) → f < 65536 → s < 65536 → 0 < n → k + n ≤ 1023
-    → inside_b (Held (number_at f k) (number_at f (k + n - 1))) s ≡ within_b k n (place_by_age f s)
+    → inside_b (Some (span (number_at f k) (number_at f (k + n - 1)))) s ≡ within_b k n (place_by_age f s)
 unfolding inside_b
 inside_run f k n s hf hs some few =
     ap₂ leb (place_from f k s hf (omega arith) hs) last ∙ by_place (place_by_age f s) (omega arith)
@@ -133,7 +132,7 @@ module _ (t : List ℕ) (sd : sound_b t ≡ true) where
   pub inside_told : (k : ℕ) → k < count t → inside_b (told_by t) (number_at (first t) k) ≡ true
   unfolding inside_b newest_number
   inside_told k h =
-      ap (λ (told : Told). inside_b told (number_at (first t) k)) (told_held t t sd (omega arith))
+      ap (λ (told : Option Span). inside_b told (number_at (first t) k)) (told_held t t sd (omega arith))
       ∙ ap₂ leb (place_back (first t) k (first_small t) (omega (arith, few))) (place_back (first t) (count t - 1) (first_small t) (omega (arith, few)))
       ∙ le-leb k (count t - 1) (omega arith)
 
@@ -167,7 +166,7 @@ module _ (t : List ℕ) (sd : sound_b t ≡ true) where
               ∙ ap (either (received_b m s)) (within_more k n (age_of t s));
         }
 
-  pub takes : (n k : ℕ) (m : List ℕ) → length m ≡ map_words → k + n ≤ count t → Took t m k n (take_readings (told_by t) m (map Is (take n (drop k (held t)))))
+  pub takes : (n k : ℕ) (m : List ℕ) → length m ≡ map_words → k + n ≤ count t → Took t m k n (take_readings (told_by t) m (map Some (take n (drop k (held t)))))
   unfolding take_readings
   takes zero k m whole fits =
       record {
@@ -177,5 +176,5 @@ module _ (t : List ℕ) (sd : sound_b t ≡ true) where
   takes (suc n) k m whole fits =
       let h : k < count t = omega arith in
       let rest = takes n (k + 1) (with_one m k whole h) (take_words (told_by t) m (number m k whole h) ∙ whole) (omega arith) in
-      let later : List ℕ → List ℕ = λ x. take_readings (told_by t) x (map Is (take n (drop (k + 1) (held t)))) in
+      let later : List ℕ → List ℕ = λ x. take_readings (told_by t) x (map Some (take n (drop (k + 1) (held t)))) in
       rw (drop_held t k h) (subst (λ (x : List ℕ). Took t m k (suc n) (later x)) (sym (one_taken m k whole h)) (then m k whole h rest))

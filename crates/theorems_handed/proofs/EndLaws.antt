@@ -13,11 +13,8 @@ use Rattle.table.specs.Table.{sound_b}
 use Rattle.table_write.specs.Start.{start_of}
 use Rattle.clock.specs.Answers.{number_of}
 use Rattle.clock.specs.Obeys.{clock_b}
-use Rattle.clock.specs.Events.{disconnected}
-use Rattle.clock.specs.declared.events.Event.{Event}
+use Rattle.clock.specs.Events.{disconnected, Event}
 use Rattle.clock.specs.declared.state.Clock.{Clock}
-use Rattle.clock.specs.declared.state.Running.{Running}
-use Rattle.clock.specs.declared.state.Running.TheVariants.{Idle, Reporting}
 use Rattle.clock.proofs.EventLaws.{disconnect_done}
 use Rattle.rows.specs.Reply.{Outcome, done_b, answered}
 use Rattle.rows.specs.Rows.{first_failed, idle_b, table_rows}
@@ -25,8 +22,6 @@ use Rattle.update.specs.Start.{new_reader_of}
 use Rattle.update.specs.Fault.{faulted_of}
 use Rattle.update.proofs.FaultLaws.{fault_refused, fault_done}
 use Rattle.racp_request.specs.Request.{request_of}
-use Rattle.racp_request.specs.declared.request.Request.{Request}
-use Rattle.racp_request.specs.declared.request.Request.TheVariants.{Report, Number, Abort, Refused}
 use Rattle.racp_access.specs.Access.{accessed, aborted_of, accessed_of}
 use Rattle.theorems_reports.specs.World.{World, world, Call, seconds, switches, disconnect, fault, time_update, record_access, notify, step_by, step_of}
 use Rattle.theorems_reports.specs.Hearing.{calm_b}
@@ -37,6 +32,11 @@ use Rattle.theorems_handed.specs.Server.{start, call, right, answer_to}
 use Rattle.theorems_reports.specs.Endings.{Ending, ongoing, closed, aborted, faulted, restarted, ending_of_request, ending_by, ended_b}
 use Rattle.theorems_handed.specs.Endings.{ending_in}
 use Rattle.theorems_reports.specs.Endings as endings
+use Rattle.clock.specs.declared.state.Report.{Report}
+use Rattle.codes.specs.declared.response.Code.{Code}
+use Rattle.racp_request.specs.declared.request.Request.{Request}
+use Rattle.racp_request.specs.declared.request.Request.TheVariants.{Abort, Number, Report as ReportOf}
+use Rattle.std.proofs.Common.{Err, None, Ok, Option, Result, Some}
 
 abbrev pub closed_b : Ending → Bool
 closed_b ongoing = false
@@ -61,11 +61,11 @@ call_open (fault o) = refl
 call_open (time_update w o b) = refl
 call_open (record_access w o) = go (request_of w)
   where
-    go : (q : Request) → closed_b (ending_of_request q) ≡ false
-    go (Report f) = refl
-    go (Number f) = refl
-    go Abort = refl
-    go (Refused k) = refl
+    go : (q : Result Request Code) → closed_b (ending_of_request q) ≡ false
+    go (Ok (ReportOf f)) = refl
+    go (Ok (Number f)) = refl
+    go (Ok Abort) = refl
+    go (Err k) = refl
 call_open (notify p o) = refl
 
 -- a calm call is no ending, any other is one
@@ -114,12 +114,12 @@ module _ (c : Clock) (t : List ℕ) where
       go true h = ap (λ (u : Outcome). idle_b u.reply.clock.running) (fault_done c t o h)
       go false h = absurd (clash _ d (ap (λ (u : Outcome). done_b u.reply.answer) (fault_refused c t o h) ∙ h))
 
-  pub aborted_idle : (r : Running) → c.running ≡ r → idle_b (aborted_of c r).clock.running ≡ true
+  pub aborted_idle : (r : Option Report) → c.running ≡ r → idle_b (aborted_of c r).clock.running ≡ true
   unfolding aborted_of accessed
-  aborted_idle Idle e = ap idle_b e
-  aborted_idle (Reporting r) e = refl
+  aborted_idle None e = ap idle_b e
+  aborted_idle (Some r) e = refl
 
-  abort_idle : (w o : List ℕ) → request_of w ≡ Abort → done_b (answer_of (world c t) (record_access w o)) ≡ true
+  abort_idle : (w o : List ℕ) → request_of w ≡ Ok Abort → done_b (answer_of (world c t) (record_access w o)) ≡ true
       → idle_b (step_of (world c t) (record_access w o)).clock.running ≡ true
   unfolding answer_of step_by accessed_of
   abort_idle w o q d =
@@ -130,11 +130,11 @@ module _ (c : Clock) (t : List ℕ) where
   unfolding calm_b
   access_idle w o h d = go (request_of w) refl
     where
-      go : (q : Request) → request_of w ≡ q → idle_b (step_of (world c t) (record_access w o)).clock.running ≡ true
-      go (Report f) q = absurd (clash true refl (rw q at h))
-      go (Number f) q = absurd (clash true refl (rw q at h))
-      go Abort q = abort_idle w o q d
-      go (Refused k) q = absurd (clash true refl (rw q at h))
+      go : (q : Result Request Code) → request_of w ≡ q → idle_b (step_of (world c t) (record_access w o)).clock.running ≡ true
+      go (Ok (ReportOf f)) q = absurd (clash true refl (rw q at h))
+      go (Ok (Number f)) q = absurd (clash true refl (rw q at h))
+      go (Ok Abort) q = abort_idle w o q d
+      go (Err k) q = absurd (clash true refl (rw q at h))
 
   ends_idle : clock_b c ≡ true → (a : Call) → calm_b a ≡ false → done_b (answer_of (world c t) a) ≡ true
       → idle_b (step_of (world c t) a).clock.running ≡ true

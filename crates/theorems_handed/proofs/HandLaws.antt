@@ -18,7 +18,6 @@ use Rattle.record.specs.declared.kinds.Record.{Record}
 use Rattle.table.specs.Table.{sound_b}
 use Rattle.table_look.specs.Matching.{matching}
 use Rattle.clock.specs.declared.state.Clock.{Clock}
-use Rattle.clock.specs.declared.state.Left.{Left}
 use Rattle.rows.specs.Rows.{idle_b}
 use Rattle.racp_request.specs.Request.{opcode_in}
 use Rattle.racp_access.specs.Report.{first_bytes}
@@ -40,6 +39,7 @@ use Rattle.theorems_reports.specs.Endings.{Ending, ongoing, closed}
 use Rattle.theorems_handed.specs.Endings.{ending_in}
 use Rattle.theorems_handed.specs.Handed.{Course, course, course_by, Handed, handed, first_set_b, last_set_b, fits_b, assembled_from, assembled, Beginning, Complete, HandedFrom}
 use Rattle.theorems_handed.proofs.EndLaws.{closed_b, quiet_goes, loud_cuts, loud_idle, start_restarts}
+use Rattle.std.proofs.Common.{Option}
 
 abbrev pub course_of : World → List AnyCall → Course
 course_of = course_by right
@@ -195,7 +195,7 @@ abbrev HoldsIn : List Record → ℕ → ℕ → Course → Type 0
 HoldsIn l k sent c = Holds l (assembled_from k (take sent (first_bytes l)) c.notes) c.ending
 
 module _ (t : List ℕ) (sd : sound_b t ≡ true) (hb : Bytes t) (opcode : ℕ) (f : Filter) where
-  unsent_left : {rest : Left} {sent : ℕ} {l : List Record} → Stands t sd f rest sent l → 0 < length l → sent < length (first_bytes l)
+  unsent_left : {rest : Option (ℕ × ℕ)} {sent : ℕ} {l : List Record} → Stands t sd f rest sent l → 0 < length l → sent < length (first_bytes l)
   unfolding first_bytes
   unsent_left none h = absurd (omega arith)
   unsent_left (some s) h = s.unsent

@@ -12,7 +12,6 @@ use lib.Seq.{drop-cons, take-append_seam, drop-append_seam, take-append-le}
 use Rattle.octets.specs.Choice.{both, pick}
 use Rattle.octets.specs.Numbers.{at}
 use Rattle.octets.proofs.Tests.{both_reads}
-use Rattle.record.specs.declared.kinds.Reading.{Reading}
 use Rattle.record_read.specs.Reading.{read_of}
 use Rattle.racp_notify.specs.Notify.{header_of, segment_of, counter_after}
 use Rattle.joining.specs.Joining as joining
@@ -24,6 +23,8 @@ use Rattle.theorems_reports.specs.Joined.{got, join_all}
 use Rattle.theorems_reports.proofs.JoinLaws.{Synced, synced_empty, join_last, join_more}
 use Rattle.theorems_handed.specs.Handed.{Handed, handed, first_set_b, last_set_b, fits_b, assembled_from}
 use Rattle.theorems_handed.specs.Joined.{Short, JoiningAssembles}
+use Rattle.record.specs.declared.kinds.Record.{Record}
+use Rattle.std.proofs.Common.{Option}
 
 -- what is asked of segments: they fit together, and no record is longer than 45 bytes
 record Fine (h : Handed) : Type 0 where
@@ -93,7 +94,7 @@ module _ (k : ℕ) (part n : List ℕ) (f : Fits k part n) where
 
 -- what the tablet makes of a segment, and then of the rest
 module _ (j i : Joining) (n : List ℕ) (ns : List (List ℕ)) where
-  joins_whole : (b : List ℕ) (l : List Reading) → join_of j n ≡ joining.joined Whole i → joined_in i ≡ b → join_all i ns ≡ got l true
+  joins_whole : (b : List ℕ) (l : List (Option Record)) → join_of j n ≡ joining.joined Whole i → joined_in i ≡ b → join_all i ns ≡ got l true
       → join_all j (n ∷ ns) ≡ got (read_of b ∷ l) true
   unfolding join_all
   joins_whole b l e w r = rw (e, r, w)

@@ -11,8 +11,6 @@ use lib.ListN.{length, take, drop, length-take}
 use Rattle.octets.specs.Parts.{Bytes}
 use Rattle.filter.specs.declared.filter.Filter.{Filter}
 use Rattle.record.specs.declared.kinds.Record.{Record}
-use Rattle.record.specs.declared.kinds.Reading.{Reading}
-use Rattle.record.specs.declared.kinds.Reading.TheVariants.{Is}
 use Rattle.record_write.specs.Layout.{bytes_of}
 use Rattle.record_read.specs.Reading.{read_of}
 use Rattle.record_read.proofs.RoundTrip.{length_bytes}
@@ -30,10 +28,11 @@ use Rattle.theorems_handed.specs.Handed.{Course, assembled, HandedFrom}
 use Rattle.theorems_handed.specs.Joined.{Short, EveryRecordJoined}
 use Rattle.theorems_handed.proofs.HandLaws.{is_accepted, hands_over}
 use Rattle.theorems_handed.proofs.JoinedLaws.{joining_assembles}
+use Rattle.std.proofs.Common.{Option, Some}
 
 -- the bytes of each record of a list read back
 abbrev Reads : List Record → Type 0
-Reads l = map read_of (map bytes_of l) ≡ map Is l
+Reads l = map read_of (map bytes_of l) ≡ map Some l
 
 map_take : {A B : Type 0} (g : A → B) (n : ℕ) (l : List A) → map g (take n l) ≡ take n (map g l)
 map_take g zero l = refl
@@ -58,17 +57,17 @@ few_unfinished : (u : List ℕ) (n : ℕ) (l : List Record) → u ≡ take n (fi
 few_unfinished u n l e = rw e (omega (arith, length-take n (first_bytes l), few_first l))
 
 joined : (l : List Record) (c : Course) → Reads l → HandedFrom l c
-    → join_all empty_joining c.notes ≡ got (map Is (take (length (assembled c.notes).whole) l)) true
+    → join_all empty_joining c.notes ≡ got (map Some (take (length (assembled c.notes).whole) l)) true
 joined l c r h =
     let b = h.beginning in
     let a = assembled c.notes in
     let n = length a.whole in
     joining_assembles c.notes b.fitting (short_whole a.whole n l b.whole)
     (few_unfinished a.unfinished (length a.unfinished) (drop n l) b.unfinished)
-    ∙ ap (λ (x : List Reading). got x true)
-    (ap (map read_of) b.whole ∙ map_take read_of n (map bytes_of l) ∙ ap (take n) r ∙ sym (map_take Is n l))
+    ∙ ap (λ (x : List (Option Record)). got x true)
+    (ap (map read_of) b.whole ∙ map_take read_of n (map bytes_of l) ∙ ap (take n) r ∙ sym (map_take Some n l))
 
-reads_here : (r : Record) (l : List Record) → read_of (bytes_of r) ≡ Is r → Reads l → Reads (r ∷ l)
+reads_here : (r : Record) (l : List Record) → read_of (bytes_of r) ≡ Some r → Reads l → Reads (r ∷ l)
 reads_here r l e h = rw (e, h)
 
 -- the held records of a sound table that match, from an age on

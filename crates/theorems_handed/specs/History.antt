@@ -1,14 +1,15 @@
 -- All segments of a whole history, and the reports that they are of.
-use Rattle.std.specs.Prelude.{Bool, true, false, List, [], ◌∷◌, ◌++◌, ℕ, eqb, length}
+use Rattle.std.specs.Prelude.{Bool, true, false, List, [], ◌∷◌, ◌++◌, ℕ, eqb, length, Err, Ok, Result}
 use Rattle.octets.specs.Choice.{both, pick}
 use Rattle.rows.specs.Reply.{done_b}
 use Rattle.racp_request.specs.Request.{request_of}
-use Rattle.racp_request.specs.declared.request.Request.{Request}
-use Rattle.racp_request.specs.declared.request.Request.TheVariants.{Report, Number, Abort, Refused}
 use Rattle.theorems_reports.specs.World.{World, seconds, switches, disconnect, fault, time_update, record_access, notify}
 use Rattle.theorems_reports.specs.Hearing.{Heard, nothing, segment, closing}
 use Rattle.theorems_handed.specs.Server.{AnyCall, start, call, Server}
 use Rattle.theorems_handed.specs.Handed.{Course, course_by}
+use Rattle.codes.specs.declared.response.Code.{Code}
+use Rattle.racp_request.specs.declared.request.Request.{Request}
+use Rattle.racp_request.specs.declared.request.Request.TheVariants.{Abort, Number, Report}
 
 -- every segment that is heard, of whatever report
 abbrev pub segment_then : Heard → List (List ℕ) → List (List ℕ)
@@ -21,11 +22,11 @@ notes_by s v [] = []
 notes_by s v (k ∷ ks) = let rest = notes_by s (s.after v k) ks in segment_then (s.heard v k) rest
 
 -- does a call begin a report: a 1 or 7 that is answered with 0 and without response bytes?
-abbrev pub asks_report_b : Request → Bool
-asks_report_b (Report f) = true
-asks_report_b (Number f) = false
-asks_report_b Abort = false
-asks_report_b (Refused k) = false
+abbrev pub asks_report_b : Result Request Code → Bool
+asks_report_b (Ok (Report f)) = true
+asks_report_b (Ok (Number f)) = false
+asks_report_b (Ok Abort) = false
+asks_report_b (Err k) = false
 
 unfoldable pub begins_b : Server → World → AnyCall → Bool
 begins_b s v start = false

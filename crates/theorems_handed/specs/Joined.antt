@@ -1,9 +1,8 @@
 -- Every record once, carried over to the tablet's joining.
-use Rattle.std.specs.Prelude.{◌≡◌, true, List, [], ◌∷◌, map, ℕ, ◌≤◌, ◌<◌, length, take}
+use Rattle.std.specs.Prelude.{◌≡◌, true, List, [], ◌∷◌, map, ℕ, ◌≤◌, ◌<◌, length, take, Some}
 use Rattle.octets.specs.Parts.{Bytes}
 use Rattle.filter.specs.declared.filter.Filter.{Filter}
 use Rattle.record.specs.Fields.{most_bytes}
-use Rattle.record.specs.declared.kinds.Reading.TheVariants.{Is}
 use Rattle.record_read.specs.Reading.{read_of}
 use Rattle.table_look.specs.Matching.{matching}
 use Rattle.joining.specs.Joining.{empty_joining}
@@ -27,4 +26,4 @@ JoiningAssembles = (ns : List (List ℕ)) → (assembled ns).fitting ≡ true �
 abbrev pub EveryRecordJoined : Server → Type 0
 EveryRecordJoined s = (v : World) (w o : List ℕ) (f : Filter) (ks : List AnyCall) → Bytes v.table → Accepts s v w o f
     → (let c = course_by s (begins s v w o) ks in
-    join_all empty_joining c.notes ≡ got (map Is (take (length (assembled c.notes).whole) (matching f v.table))) true)
+    join_all empty_joining c.notes ≡ got (map Some (take (length (assembled c.notes).whole) (matching f v.table))) true)

@@ -1,15 +1,15 @@
 -- A server as its radio sees it, over any calls: so that a theorem can be said of every server, and be false of a wrong one.
-use Rattle.std.specs.Prelude.{◌≡◌, true, List, [], ℕ}
+use Rattle.std.specs.Prelude.{◌≡◌, true, List, [], ℕ, Ok}
 use Rattle.filter.specs.declared.filter.Filter.{Filter}
-use Rattle.clock.specs.declared.answers.Answer.{Answer}
 use Rattle.rows.specs.Reply.{done_b}
 use Rattle.update.specs.Start.{new_reader_of}
 use Rattle.racp_request.specs.Request.{request_of}
-use Rattle.racp_request.specs.declared.request.Request.TheVariants.{Report}
 use Rattle.theorems_reports.specs.World.{World, new_world, Call, record_access, step_of}
 use Rattle.theorems_reports.specs.Hearing.{Heard, nothing, heard_of}
 use Rattle.theorems_reports.specs.Reports.{response_to}
 use Rattle.theorems_reports.specs.Closing.{answer_of}
+use Rattle.racp_request.specs.declared.request.Request.TheVariants.{Report}
+use Rattle.clock.specs.Answers.{Answer}
 
 -- One of the calls in a history: the start call over the same buffer, or a call of the started reader.
 pub data AnyCall : Type 0 where
@@ -41,7 +41,7 @@ right = record { after = after_of; answer = answer_to; response = response_to; h
 
 -- "An accepted 1 or 7 is a 0 without response bytes", and the world after it
 pub record Accepts (s : Server) (v : World) (w o : List ℕ) (f : Filter) : Type 0 where
-  pub asked : request_of w ≡ Report f
+  pub asked : request_of w ≡ Ok (Report f)
   pub done : done_b (s.answer v (call (record_access w o))) ≡ true
   pub silent : s.response v w o ≡ []
 

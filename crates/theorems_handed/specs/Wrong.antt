@@ -1,14 +1,9 @@
 -- Wrong servers that Every record once and Left to finish shut out: each is the right one but for what is said of it.
-use Rattle.std.specs.Prelude.{Bool, true, false, not, List, ◌++◌, ℕ, ◌+◌, ◌-◌, ltb, eqb, length, take}
+use Rattle.std.specs.Prelude.{Bool, true, false, not, List, ◌++◌, ℕ, ◌+◌, ◌-◌, ltb, eqb, length, take, None, Option, Some, Err}
 use Rattle.octets.specs.Choice.{both, pick}
 use Rattle.filter.specs.declared.filter.Filter.TheVariants.{All}
 use Rattle.table.specs.Table.{count, held, age_of}
 use Rattle.clock.specs.State.{with_running}
-use Rattle.clock.specs.declared.answers.Answer.TheVariants.{NothingRunning}
-use Rattle.clock.specs.declared.state.Left.{Left}
-use Rattle.clock.specs.declared.state.Left.TheVariants.{Nothing, From}
-use Rattle.clock.specs.declared.state.Running.{Running}
-use Rattle.clock.specs.declared.state.Running.TheVariants.{Idle, Reporting}
 use Rattle.rows.specs.Rows.{idle_b}
 use Rattle.racp_access.specs.Report.{report, first_bytes, left_from}
 use Rattle.theorems_reports.specs.World.{World, world, seconds, switches, disconnect, fault, time_update, record_access, notify}
@@ -21,9 +16,11 @@ use Rattle.theorems_handed.specs.Endings.{ending_any}
 use Rattle.theorems_handed.specs.Handed.{last_set_b}
 use Rattle.theorems_handed.specs.Once.{EveryRecordOnce}
 use Rattle.theorems_handed.specs.Left.{LeftToFinish}
+use Rattle.clock.specs.declared.state.Report.{Report}
+use Rattle.clock.specs.declared.answers.Refusal.TheVariants.{NothingRunning}
 
 -- the world with another report running
-abbrev running : World → Running → World
+abbrev running : World → Option Report → World
 running v r = world (with_running v.clock r) v.table
 
 abbrev idle : World → Bool
@@ -36,17 +33,17 @@ repeats =
       after = after_of;
       answer = answer_to;
       response = response_to;
-      heard = λ v k. heard_to (pick (idle v) (running v (Reporting (report 1 All 0 (left_from All v.table 0)))) v) k;
+      heard = λ v k. heard_to (pick (idle v) (running v (Some (report 1 All 0 (left_from All v.table 0)))) v) k;
     }
 
 -- Leaves out the newest held record: closes in its place.
-unfoldable pub without_newest : List ℕ → Left → Left
-without_newest t Nothing = Nothing
-without_newest t (From number sent) = pick (eqb (age_of t number + 1) (count t)) Nothing (From number sent)
+unfoldable pub without_newest : List ℕ → Option (ℕ × ℕ) → Option (ℕ × ℕ)
+without_newest t None = None
+without_newest t (Some (number, sent)) = pick (eqb (age_of t number + 1) (count t)) None (Some (number, sent))
 
-unfoldable pub hiding : List ℕ → Running → Running
-hiding t Idle = Idle
-hiding t (Reporting r) = Reporting (report r.opcode r.filter r.counter (without_newest t r.left))
+unfoldable pub hiding : List ℕ → Option Report → Option Report
+hiding t None = None
+hiding t (Some r) = Some (report r.opcode r.filter r.counter (without_newest t r.left))
 
 unfoldable pub leaves_out : Server
 leaves_out =
@@ -101,7 +98,7 @@ ends_with_b e k = eqb (rank_of (ending_any k)) (rank_of e)
 -- Goes on with the old report inside a new one: an Abort is answered as it should be, any other record access as if no report ran, and the one that
 -- runs stays.
 abbrev freed : World → AnyCall → World
-freed v k = pick (ends_with_b aborted k) v (running v Idle)
+freed v k = pick (ends_with_b aborted k) v (running v None)
 
 unfoldable pub goes_on_inside : Server
 goes_on_inside =
@@ -126,16 +123,16 @@ goes_on_after e =
 unfoldable pub takes_in : Server
 takes_in =
     record {
-      after = λ v k. pick (sets_b k) (running (after_of (running v Idle) k) v.clock.running) (after_of v k);
-      answer = λ v k. answer_to (pick (sets_b k) (running v Idle) v) k;
+      after = λ v k. pick (sets_b k) (running (after_of (running v None) k) v.clock.running) (after_of v k);
+      answer = λ v k. answer_to (pick (sets_b k) (running v None) v) k;
       response = response_to;
       heard = heard_to;
     }
 
 -- Stops after the first segment: no notification is answered any more.
-abbrev begun_b : Running → Bool
-begun_b Idle = false
-begun_b (Reporting r) = ltb 0 r.counter
+abbrev begun_b : Option Report → Bool
+begun_b None = false
+begun_b (Some r) = ltb 0 r.counter
 
 abbrev silenced_b : World → AnyCall → Bool
 silenced_b v k = both (begun_b v.clock.running) (heard_b (heard_to v k))
@@ -144,7 +141,7 @@ unfoldable pub stops : Server
 stops =
     record {
       after = λ v k. pick (silenced_b v k) v (after_of v k);
-      answer = λ v k. pick (silenced_b v k) NothingRunning (answer_to v k);
+      answer = λ v k. pick (silenced_b v k) (Err NothingRunning) (answer_to v k);
       response = response_to;
       heard = λ v k. pick (silenced_b v k) nothing (heard_to v k);
     }

@@ -11,9 +11,7 @@ use Rattle.octets.specs.Parts.{Bytes}
 use Rattle.octets.proofs.Tests.{both_no}
 use Rattle.table.specs.Table.{size_b}
 use Rattle.table_write.specs.Start.{start_of}
-use Rattle.clock.specs.Answers.{number_of}
-use Rattle.clock.specs.declared.answers.Answer.{Answer}
-use Rattle.clock.specs.declared.answers.Answer.TheVariants.{Done, TableNotSound, ClockBroken, OutputShort, WriteLength, SwitchedOff, ReportRunning, PastTheEnd, NothingRunning}
+use Rattle.clock.specs.Answers.{number_of, Answer}
 use Rattle.clock.specs.declared.state.Clock.{Clock}
 use Rattle.rows.specs.Reply.{Outcome, done_b, answered}
 use Rattle.rows.specs.Rows.{first_failed}
@@ -43,6 +41,8 @@ use Rattle.theorems_bytes.proofs.ImageLaws.{one_call, Fit, entry_is}
 use Rattle.theorems_bytes.proofs.ReportLaws.{notify_heard}
 use Rattle.theorems_handed_bytes.specs.Endings.{entry_by, heard_entry, ending_first, ending_at}
 use Rattle.theorems_handed_bytes.specs.Courses.{begins_at}
+use Rattle.clock.specs.declared.answers.Refusal.TheVariants.{ClockBroken, NothingRunning, OutputShort, PastTheEnd, ReportRunning, SwitchedOff, TableNotSound, WriteLength}
+use Rattle.std.proofs.Common.{Err, Ok}
 
 -- What an entry point does to a report is what its call by value does; where there is none, nothing.
 pub data Entered (v : World) (k : EntryCall) : List AnyCall → Type 0 where
@@ -59,7 +59,7 @@ ended v k c n f e r =
     ∙ ap (λ (b : Bool). pick b (ending_any c) ongoing) (ap done_at r ∙ done_result (answer_to v c) n)
 
 -- start refuses no buffer of a permitted size
-started : (t : List ℕ) → size_b (length t) ≡ true → (new_reader_of t).event.answer ≡ Done
+started : (t : List ℕ) → size_b (length t) ≡ true → (new_reader_of t).event.answer ≡ Ok tt
 unfolding new_reader_of start_of
 started t h = rw h
 
@@ -75,15 +75,15 @@ none_ended false = refl
 -- a result 0 is a call that is done, without response bytes
 zero_result : (a : Answer) (n : ℕ) → zero_at (result_of a n) ≡ both (done_b a) (eqb n 0)
 unfolding result_of done_b number_of
-zero_result Done n = refl
-zero_result TableNotSound n = refl
-zero_result ClockBroken n = refl
-zero_result OutputShort n = refl
-zero_result WriteLength n = refl
-zero_result SwitchedOff n = refl
-zero_result ReportRunning n = refl
-zero_result PastTheEnd n = refl
-zero_result NothingRunning n = refl
+zero_result (Ok done) n = refl
+zero_result (Err TableNotSound) n = refl
+zero_result (Err ClockBroken) n = refl
+zero_result (Err OutputShort) n = refl
+zero_result (Err WriteLength) n = refl
+zero_result (Err SwitchedOff) n = refl
+zero_result (Err ReportRunning) n = refl
+zero_result (Err PastTheEnd) n = refl
+zero_result (Err NothingRunning) n = refl
 
 module _ (c : Clock) (t w o : List ℕ) where
   abbrev answer : Answer

@@ -7,7 +7,6 @@ use Prim.Native.Nat.{ℕ, ◌<◌}
 use lib.ListN.{length, take, replicate}
 use Rattle.octets.specs.Parts.{Bytes}
 use Rattle.filter.specs.declared.filter.Filter.{Filter}
-use Rattle.record.specs.declared.kinds.Reading.TheVariants.{Is}
 use Rattle.record.specs.declared.kinds.Record.{Record}
 use Rattle.table_look.specs.Matching.{matching}
 use Rattle.joining.specs.Joining.{empty_joining}
@@ -34,6 +33,7 @@ use Rattle.theorems_handed_bytes.specs.Endings.{entry_by, entries_of}
 use Rattle.theorems_handed_bytes.specs.Courses.{course_at, notes_at, courses_at}
 use Rattle.theorems_handed_bytes.specs.Once.{OnceAt, EveryRecordOnceAt, NothingElseAt}
 use Rattle.theorems_handed_bytes.proofs.CourseLaws.{course_is, notes_are, courses_are}
+use Rattle.std.proofs.Common.{Some}
 
 -- calls without a start among them
 entries_calls : (ks : List ByteCall) → entries_of (map call ks) ≡ map any.call (calls_of ks)
@@ -47,7 +47,7 @@ unfolding answer_to answer_of
 accepts_is v w o f a = record { asked = a.asked; done = a.done; silent = a.silent }
 
 -- what the tablet reads by value it reads over its 48 bytes
-joined_is : (e : List ℕ) (ns : List (List ℕ)) (l : List Record) → join_all empty_joining ns ≡ got (map Is l) true
+joined_is : (e : List ℕ) (ns : List (List ℕ)) (l : List Record) → join_all empty_joining ns ≡ got (map Some l) true
     → join_all_at e (replicate joining_bytes 0) ns ≡ got_at (map shown_of l) true
 joined_is e ns l h = from_zeros e ns ∙ ap (got_of e) h ∙ ap (λ (n : List ReadNumbers). got_at n true) (read_all e l)
 

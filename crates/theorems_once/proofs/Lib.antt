@@ -12,3 +12,4 @@ pub mod OfFetch
 pub mod OfPrograms
 pub mod WeakerPromises
 pub mod OfEntries
+pub mod Answered

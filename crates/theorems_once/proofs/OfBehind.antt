@@ -17,12 +17,8 @@ use Rattle.rows.proofs.rows.table_rows.Kinds as table-rows-kinds
 use Rattle.rows.proofs.rows.table_rows.Reads as table-rows-reads
 use Rattle.rows.proofs.rows.write_rows.Kinds as write-rows-kinds
 use Rattle.rows.proofs.rows.write_rows.Reads as write-rows-reads
-use Rattle.rows.proofs.rows.and_then.Kinds as and-then-kinds
-use Rattle.rows.proofs.rows.and_then.Reads as and-then-reads
 use Rattle.rows.proofs.rows.idle.Kinds as idle-kinds
 use Rattle.rows.proofs.rows.idle.Reads as idle-reads
-use Rattle.rows.proofs.reply.done.Kinds as done-kinds
-use Rattle.rows.proofs.reply.done.Reads as done-reads
 use Rattle.update_judge.proofs.proposal.proposal_at.Kinds as proposal-at-kinds
 use Rattle.update_judge.proofs.proposal.proposal_at.Reads as proposal-at-reads
 use Rattle.update_judge.proofs.grades.clock_grade.Kinds as clock-grade-kinds
@@ -67,9 +63,7 @@ pub record OneOutcome : Type 0 where
   pub att_error_of_lem : Only att-error-of-kinds.ps att-error-of-kinds.r att-error-of-reads.Pre att-error-of-reads.Post
   pub table_rows_lem : Only table-rows-kinds.ps table-rows-kinds.r table-rows-reads.Pre table-rows-reads.Post
   pub write_rows_lem : Only write-rows-kinds.ps write-rows-kinds.r write-rows-reads.Pre write-rows-reads.Post
-  pub and_then : Only and-then-kinds.ps and-then-kinds.r and-then-reads.Pre and-then-reads.Post
   pub idle : Only idle-kinds.ps idle-kinds.r idle-reads.Pre idle-reads.Post
-  pub done : Only done-kinds.ps done-kinds.r done-reads.Pre done-reads.Post
   pub proposal_at_lem : Only proposal-at-kinds.ps proposal-at-kinds.r proposal-at-reads.Pre proposal-at-reads.Post
   pub clock_grade_lem : Only clock-grade-kinds.ps clock-grade-kinds.r clock-grade-reads.Pre clock-grade-reads.Post
   pub grade_of_lem : Only grade-of-kinds.ps grade-of-kinds.r grade-of-reads.Pre grade-of-reads.Post

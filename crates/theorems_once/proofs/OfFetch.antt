@@ -6,14 +6,14 @@ use Rattle.fetch_word.proofs.word.with_bit.Kinds as with-bit-kinds
 use Rattle.fetch_word.proofs.word.with_bit.Reads as with-bit-reads
 use Rattle.fetch_word.proofs.word.ones.Kinds as ones-kinds
 use Rattle.fetch_word.proofs.word.ones.Reads as ones-reads
-use Rattle.fetch_word.proofs.run.least.Kinds as least-kinds
-use Rattle.fetch_word.proofs.run.least.Reads as least-reads
 use Rattle.fetch_word.proofs.run.look.Kinds as look-kinds
 use Rattle.fetch_word.proofs.run.look.Reads as look-reads
 use Rattle.fetch_told.proofs.told.inside_bits.Kinds as inside-bits-kinds
 use Rattle.fetch_told.proofs.told.inside_bits.Reads as inside-bits-reads
-use Rattle.fetch_told.proofs.told.range_size.Kinds as range-size-kinds
-use Rattle.fetch_told.proofs.told.range_size.Reads as range-size-reads
+use Rattle.fetch_told.proofs.told.Span.size.Kinds as range-size-kinds
+use Rattle.fetch_told.proofs.told.Span.size.Reads as range-size-reads
+use Rattle.fetch_told.proofs.told.Span.contains.Kinds as contains-kinds
+use Rattle.fetch_told.proofs.told.Span.contains.Reads as contains-reads
 use Rattle.fetch_told.proofs.told.inside.Kinds as inside-kinds
 use Rattle.fetch_told.proofs.told.inside.Reads as inside-reads
 use Rattle.fetch_map.proofs.tell.tell.Kinds as tell-kinds
@@ -39,10 +39,10 @@ pub record OneOutcome : Type 0 where
   pub below : Only below-kinds.ps below-kinds.r below-reads.Pre below-reads.Post
   pub with_bit_lem : Only with-bit-kinds.ps with-bit-kinds.r with-bit-reads.Pre with-bit-reads.Post
   pub ones : Door ones-kinds.ps ones-kinds.r ones-reads.Pre ones-reads.Post
-  pub least : Door least-kinds.ps least-kinds.r least-reads.Pre least-reads.Post
   pub look : Only look-kinds.ps look-kinds.r look-reads.Pre look-reads.Post
   pub inside_bits : Only inside-bits-kinds.ps inside-bits-kinds.r inside-bits-reads.Pre inside-bits-reads.Post
   pub range_size : Door range-size-kinds.ps range-size-kinds.r range-size-reads.Pre range-size-reads.Post
+  pub contains : Door contains-kinds.ps contains-kinds.r contains-reads.Pre contains-reads.Post
   pub inside : Door inside-kinds.ps inside-kinds.r inside-reads.Pre inside-reads.Post
   pub tell : Door tell-kinds.ps tell-kinds.r tell-reads.Pre tell-reads.Post
   pub take_in : Door take-in-kinds.ps take-in-kinds.r take-in-reads.Pre take-in-reads.Post

@@ -7,22 +7,24 @@ use Rattle.filter.specs.declared.filter.Filter.TheVariants.{All, AtLeast}
 use Rattle.clock.specs.declared.state.Clock.{Clock}
 use Rattle.rows.specs.Reply.{Outcome}
 use Rattle.racp_request.specs.Request.{opcode_in, request_of}
-use Rattle.racp_request.specs.declared.request.Request.{Request}
-use Rattle.racp_request.specs.declared.request.Request.TheVariants.{Report, Number, Abort, Refused}
 use Rattle.racp_access.specs.Access.{accessed_of, access_of}
 use Rattle.theorems_calls.specs.OfTransfer.{AcceptedWhenMatching, NumberCounts}
 use Rattle.theorems_calls.proofs.AnswerLaws.{accepted_when_matching, number_counts}
 use Rattle.theorems_paper.specs.Reader.{output, response, switched_on, access, first}
 use Rattle.theorems_paper.proofs.ShutLaws.{differ}
 use Rattle.theorems_paper.specs.Wrong.{accessed_by, accessing_by, count_matching, first_match, numbers_next, numbers_none, accepts_any, AccessShutOut}
+use Rattle.codes.specs.declared.response.Code.{Code}
+use Rattle.racp_request.specs.declared.request.Request.{Request}
+use Rattle.racp_request.specs.declared.request.Request.TheVariants.{Abort, Number, Report}
+use Rattle.std.proofs.Common.{Err, Ok, Result}
 
 module _ (c : Clock) (t w o : List ℕ) where
-  same : (opcode : ℕ) (q : Request) → accessed_by count_matching first_match c t opcode q ≡ accessed_of c t opcode q
+  same : (opcode : ℕ) (q : Result Request Code) → accessed_by count_matching first_match c t opcode q ≡ accessed_of c t opcode q
   unfolding accessed_by accessed_of
-  same opcode (Report f) = refl
-  same opcode (Number f) = refl
-  same opcode Abort = refl
-  same opcode (Refused k) = refl
+  same opcode (Ok (Report f)) = refl
+  same opcode (Ok (Number f)) = refl
+  same opcode (Ok Abort) = refl
+  same opcode (Err k) = refl
 
   parts : accessing_by count_matching first_match c t w o ≡ access_of c t w o
   unfolding accessing_by access_of

@@ -10,13 +10,13 @@ use Rattle.octets.specs.Parts.{over}
 use Rattle.octets.proofs.Tests.{clash}
 use Rattle.clock.specs.declared.state.Clock.{Clock}
 use Rattle.clock.specs.declared.state.Report.{Report}
-use Rattle.clock.specs.declared.state.Running.TheVariants.{Idle, Reporting}
 use Rattle.update.specs.Fault.{faulted_of, ending_of, fault_of}
 use Rattle.rows.specs.Reply.{done_b, answered}
 use Rattle.rows.specs.Rows.{first_failed, idle_b, table_rows}
 use Rattle.theorems_paper.specs.Reader.{output, response, access, reporting}
 use Rattle.theorems_paper.proofs.ShutLaws.{differ, done_is}
 use Rattle.theorems_paper.specs.Wrong.{EndsReport, faulting_by, keeps_running, ends_silent, FaultsShutOut}
+use Rattle.std.proofs.Common.{None, Some}
 
 module _ (c : Clock) (t o : List ℕ) where
   parts : faulting_by faulted_of ending_of c t o ≡ fault_of c t o
@@ -27,11 +27,11 @@ module _ (c : Clock) (t o : List ℕ) where
   unfolding fault_of
   answers = done_is (first_failed (table_rows c t (leb 20 (length o)))) _ c _ _ t o
 
-  idle : done_b (fault_of c t o).reply.answer ≡ true → (fault_of c t o).reply.clock.running ≡ Idle
+  idle : done_b (fault_of c t o).reply.answer ≡ true → (fault_of c t o).reply.clock.running ≡ None
   unfolding fault_of answered faulted_of
   idle h = rw (sym answers ∙ h)
 
-  says : (r : Report) → done_b (fault_of c t o).reply.answer ≡ true → c.running ≡ Reporting r
+  says : (r : Report) → done_b (fault_of c t o).reply.answer ≡ true → c.running ≡ Some r
       → response (fault_of c t o) ≡ 0x06 ∷ 0x00 ∷ r.opcode ∷ 0x08 ∷ []
   unfolding fault_of answered ending_of over
   says r h e = rw (sym answers ∙ h, e)

@@ -9,17 +9,16 @@ use lib.Dec.{eqb}
 use Rattle.octets.specs.Choice.{pick}
 use Rattle.octets.specs.Numbers.{at}
 use Rattle.octets.proofs.Tests.{clash}
-use Rattle.clock.specs.Answers.{number_of}
-use Rattle.clock.specs.declared.answers.Answer.{Answer}
-use Rattle.clock.specs.declared.answers.Answer.TheVariants.{Done}
+use Rattle.clock.specs.Answers.{number_of, Answer}
 use Rattle.clock.specs.declared.state.Clock.{Clock}
 use Rattle.rows.specs.Reply.{done_b, refused, answered}
+use Rattle.std.proofs.Common.{Ok}
 
 -- two byte strings with another byte at i
 pub differ : (i : ℕ) {x y : List ℕ} → x ≡ y → eqb (at x i) (at y i) ≡ false → ⊥
 differ i {x} {y} e h = clash (eqb (at x i) (at y i)) (eq-eqb (at x i) (at y i) (ap (λ (l : List ℕ). at l i) e)) h
 
-done_done : done_b Done ≡ true
+done_done : done_b (Ok tt) ≡ true
 unfolding done_b number_of
 done_done = refl
 

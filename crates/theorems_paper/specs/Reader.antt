@@ -1,8 +1,7 @@
 -- The reader of the paper's cases: a table of four slots, all switches on. Its calls are laid open for the checker to compute.
 use Rattle.std.specs.Prelude.{true, List, [], ◌∷◌, ◌++◌, ℕ, zero, suc, take, replicate}
 use Rattle.octets.specs.Numbers.{bytes4}
-use Rattle.clock.specs.Events.{seconds_of, switches_of}
-use Rattle.clock.specs.declared.events.Event.{Event}
+use Rattle.clock.specs.Events.{seconds_of, switches_of, Event}
 use Rattle.codes.specs.Dtcp.{propose_opcode, force_opcode}
 use Rattle.rows.specs.Reply.{Outcome}
 use Rattle.update.specs.TimeUpdate.{update_of}

@@ -1,24 +1,22 @@
 -- Document 01, "Numbers the drivers worked out (to be proved together)": its twelve cases, in its order and with its numbers, run by the checker
 -- on the definitions that the public calls' promises cite. On the left of each row what the definitions give, on the right what the paper says.
-use Rattle.std.specs.Prelude.{◌≡◌, true, List, [], ◌∷◌, map, ℕ, ◌<◌, ℤ, pos, ◌-ℤ◌, length, drop}
+use Rattle.std.specs.Prelude.{◌≡◌, true, List, [], ◌∷◌, map, ℕ, ◌<◌, ℤ, pos, ◌-ℤ◌, length, drop, Err, None, Ok, Result, Some}
 use Rattle.octets.specs.Numbers.{at}
 use Rattle.record.specs.declared.kinds.Record.{Record}
 use Rattle.record.specs.declared.kinds.Record.TheVariants.{TimeUpdate}
-use Rattle.record.specs.declared.kinds.Reading.TheVariants.{Is}
 use Rattle.table.specs.Table.{next, held, sound_b}
 use Rattle.clock.specs.Events.{on_off}
 use Rattle.clock.specs.Answers.{number_of}
 use Rattle.clock.specs.declared.state.Clock.{Clock}
-use Rattle.clock.specs.declared.state.Running.TheVariants.{Idle}
 use Rattle.codes.specs.Dtcp.{propose_opcode, force_opcode}
 use Rattle.update_judge.specs.Grounds.{unrealistic, out_of_range}
 use Rattle.rows.specs.Reply.{Outcome}
 use Rattle.carry.specs.Stamp.{later_of, moved_by, carried_over, carried_from, carry_of}
-use Rattle.carry.specs.declared.stamp.Carried.{Carried}
-use Rattle.carry.specs.declared.stamp.Carried.TheVariants.{To, TableNotSound, NotHeld, FaultAmong}
 use Rattle.theorems_reports.specs.World.{World, world_after}
 use Rattle.theorems_reports.specs.Joined.{Got, got}
 use Rattle.theorems_paper.specs.Reader.{write, case_flags, propose, force, switched_on, tick, update, access, response, sent, later, first, second, reporting, joined}
+use Rattle.carry.specs.declared.stamp.CarryError.{CarryError}
+use Rattle.carry.specs.declared.stamp.CarryError.TheVariants.{FaultAmong, NotHeld, TableNotSound}
 
 -- what is seen of a call: the number that answers it, the response, the clock after it, the records held then
 pub record Seen : Type 0 where
@@ -37,7 +35,7 @@ clock base aligned zone status =
     record {
       time = record { base = base; zone = zone; dst = 0; source = 2; accuracy = 1; status = status; faults = 0; aligned = aligned };
       switches = on_off true true true;
-      running = Idle;
+      running = None;
     }
 
 abbrev logged : ℕ → ℕ → ℕ → ℕ → ℕ → ℕ → Record
@@ -104,22 +102,22 @@ unfoldable pub set_back_write : World
 unfolding update noted tick
 set_back_write = world_after (update (later noted 50) (propose 800000070))
 
-unfoldable pub carried : ℕ → ℕ → World → Carried
+unfoldable pub carried : ℕ → ℕ → World → Result ℤ CarryError
 unfolding update carry_of carried_from carried_over moved_by later_of
 carried stamp q v = carry_of stamp q v.table
 
 -- the seconds since a carried stamp, by the clock
-abbrev since : Carried → ℕ → ℤ
-since (To z) base = pos base -ℤ z
-since TableNotSound base = pos 0
-since NotHeld base = pos 0
-since FaultAmong base = pos 0
+abbrev since : Result ℤ CarryError → ℕ → ℤ
+since (Ok z) base = pos base -ℤ z
+since (Err TableNotSound) base = pos 0
+since (Err NotHeld) base = pos 0
+since (Err FaultAmong) base = pos 0
 
 pub record Carrying : Type 0 where
   pub stamp : ℕ
   pub q : ℕ
   pub held : List Record
-  pub carried : Carried
+  pub carried : Result ℤ CarryError
   pub shows : ℕ
   pub ran : ℤ
 
@@ -191,14 +189,14 @@ Case6 = carrying ≡
       stamp = 800000050;
       q = 1;
       held = record0 ∷ logged 1 0x16 0x16 4 800000070 800000100 ∷ [];
-      carried = To (pos 800000020);
+      carried = Ok (pos 800000020);
       shows = 800000110;
       ran = pos 90;
     }
 
 -- 7. "q equal to next: stamp unchanged.": any stamp of 32 bits, any sound table
 abbrev pub Case7 : Type 0
-Case7 = (stamp : ℕ) (t : List ℕ) → stamp < 4294967296 → sound_b t ≡ true → carry_of stamp (next t) t ≡ To (pos stamp)
+Case7 = (stamp : ℕ) (t : List ℕ) → stamp < 4294967296 → sound_b t ≡ true → carry_of stamp (next t) t ≡ Ok (pos stamp)
 
 -- 8. "q 65,534, next 1: m is 3."
 abbrev pub Case8 : Type 0
@@ -207,8 +205,8 @@ Case8 = later_of 1 65534 ≡ 3
 -- 9. "24 bytes, P 20: bodies 19 and 5, headers 01 and 06. P 25: header 03."
 abbrev pub Case9 : Type 0
 Case9 = cut_in 2 20 ∷ cut_in 1 25 ∷ []
-    ≡ record { segments = (0x01 ∷ 19 ∷ []) ∷ (0x06 ∷ 5 ∷ []) ∷ []; got = got (Is record0 ∷ []) true }
-    ∷ record { segments = (0x03 ∷ 24 ∷ []) ∷ []; got = got (Is record0 ∷ []) true }
+    ≡ record { segments = (0x01 ∷ 19 ∷ []) ∷ (0x06 ∷ 5 ∷ []) ∷ []; got = got (Some record0 ∷ []) true }
+    ∷ record { segments = (0x03 ∷ 24 ∷ []) ∷ []; got = got (Some record0 ∷ []) true }
     ∷ []
 
 -- 10. "Empty log: 04 01 gives 05 00 00 00; 01 01 gives 06 00 01 06."

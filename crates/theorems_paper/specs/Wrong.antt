@@ -1,7 +1,7 @@
 -- The servers that document 01 shuts out ("What the drivers hold each promise to" and "Easy to get wrong"): time updates, record access,
 -- time faults. A promise is said of any server; it holds of the right one and of none of the wrong ones, each of which differs from the
 -- right one in one part.
-use Rattle.std.specs.Prelude.{◌≡◌, Bool, true, false, not, List, [], ◌∷◌, ℕ, ◌+◌, ◌-◌, ◌%◌, ◌<◌, leb, ltb, eqb, length}
+use Rattle.std.specs.Prelude.{◌≡◌, Bool, true, false, not, List, [], ◌∷◌, ℕ, ◌+◌, ◌-◌, ◌%◌, ◌<◌, leb, ltb, eqb, length, Err, None, Ok, Option, Result, Some}
 use Rattle.octets.specs.Choice.{both, pick}
 use Rattle.octets.specs.Numbers.{at}
 use Rattle.octets.specs.Parts.{Bytes}
@@ -13,19 +13,13 @@ use Rattle.table_write.specs.Append.{append_of}
 use Rattle.clock.specs.State.{with_running}
 use Rattle.clock.specs.declared.state.Clock.{Clock}
 use Rattle.clock.specs.declared.state.Time.{Time}
-use Rattle.clock.specs.declared.state.Left.{Left}
-use Rattle.clock.specs.declared.state.Left.TheVariants.{From}
 use Rattle.clock.specs.declared.state.Report.{Report}
-use Rattle.clock.specs.declared.state.Running.{Running}
-use Rattle.clock.specs.declared.state.Running.TheVariants.{Idle, Reporting}
 use Rattle.update_decide.specs.Accept.{accepted_of, update_record}
 use Rattle.codes.specs.Dtcp.{propose_opcode, force_opcode}
 use Rattle.update_decide.specs.Decide.{judged, decide_of}
 use Rattle.update_judge.specs.Grounds.{unrealistic, out_of_range, lower_quality, wrong_epoch, realistic_seconds, epoch_b, range_b, lower_b, unrealistic_b, flag_if, grounds_of}
 use Rattle.update_judge.specs.Proposal.{update_write_bytes, proposal_at}
 use Rattle.update_decide.specs.Response.{response_bytes}
-use Rattle.update_decide.specs.declared.decide.Decision.{Decision}
-use Rattle.update_decide.specs.declared.decide.Decision.TheVariants.{Unsupported, WrongLength, Rejected, Taken}
 use Rattle.update_judge.specs.declared.proposal.Proposal.{Proposal}
 use Rattle.rows.specs.Reply.{Outcome, done_b, refused, answered}
 use Rattle.update_logged.specs.Theorems.{success_b, LoggedOne}
@@ -35,13 +29,16 @@ use Rattle.update.specs.TimeUpdate.{AfterDecision, afterwards, update_rows, afte
 use Rattle.racp_request.specs.Request.{opcode_in, request_of}
 use Rattle.codes.specs.Racp.{number_response}
 use Rattle.codes.specs.Response.{code_bytes, count_bytes}
-use Rattle.racp_request.specs.declared.request.Request.{Request}
-use Rattle.racp_request.specs.declared.request.Request.TheVariants as asked
 use Rattle.racp_access.specs.Access.{access_rows, accessed, begun_of, aborted_of, response_in, access_of}
 use Rattle.racp_access.specs.Report.{left_from}
 use Rattle.racp_access.specs.declared.access.Accessed.{Accessed}
 use Rattle.theorems_calls.specs.OfTransfer.{Accessing, AcceptedWhenMatching, NumberCounts}
 use Rattle.theorems_paper.specs.Reader.{write, case_flags, propose, output, response, second}
+use Rattle.codes.specs.declared.response.Code.{Code}
+use Rattle.racp_request.specs.declared.request.Request.{Request}
+use Rattle.racp_request.specs.declared.request.Request.TheVariants.{Abort, Number, Report as ReportOf}
+use Rattle.update_decide.specs.declared.decide.NotTaken.{NotTaken}
+use Rattle.update_decide.specs.declared.decide.NotTaken.TheVariants.{Rejected, Unsupported, WrongLength}
 
 -- Time updates: how a write to the DTCP is answered.
 abbrev pub Updating : Type 0
@@ -80,30 +77,30 @@ pub record AnswersRightly (s : Updating) : Type 0 where
   pub all : told s (write propose_opcode 0x00 0 57) ≡ rejection propose_opcode (wrong_epoch + lower_quality + out_of_range + unrealistic)
 
 -- `update_of` with two parts open: how it decides, and what it then does
-unfoldable pub updating_by : (Clock → List ℕ → Decision) → (Clock → List ℕ → Decision → AfterDecision) → Updating
+unfoldable pub updating_by : (Clock → List ℕ → Result Proposal NotTaken) → (Clock → List ℕ → Result Proposal NotTaken → AfterDecision) → Updating
 updating_by decide settle c t w o =
     let a = first_failed (update_rows c t w o) in
     let d = decide c w in
     pick (done_b a) (answered (settle c t d).clock (settle c t d).table (response_bytes (at w 0) d) o) (refused a c t o)
 
 -- `decide_of` with the grounds open
-unfoldable pub operand_by : (Time → Proposal → Bool → ℕ) → Clock → List ℕ → Bool → Decision
+unfoldable pub operand_by : (Time → Proposal → Bool → ℕ) → Clock → List ℕ → Bool → Result Proposal NotTaken
 operand_by grounds c w forced =
-    pick (eqb (length w) update_write_bytes) (judged (proposal_at w) (grounds c.time (proposal_at w) forced)) WrongLength
+    pick (eqb (length w) update_write_bytes) (judged (proposal_at w) (grounds c.time (proposal_at w) forced)) (Err WrongLength)
 
-unfoldable pub deciding_by : (Time → Proposal → Bool → ℕ) → Clock → List ℕ → Decision
+unfoldable pub deciding_by : (Time → Proposal → Bool → ℕ) → Clock → List ℕ → Result Proposal NotTaken
 deciding_by grounds c w =
     pick (eqb (at w 0) propose_opcode)
     (operand_by grounds c w false)
-    (pick (eqb (at w 0) force_opcode) (operand_by grounds c w true) Unsupported)
+    (pick (eqb (at w 0) force_opcode) (operand_by grounds c w true) (Err Unsupported))
 
 -- "a server that rejects every proposal"
 abbrev pub rejects_every : Updating
-rejects_every = updating_by (λ c w. Rejected unrealistic) after_decision
+rejects_every = updating_by (λ c w. (Err (Rejected unrealistic))) after_decision
 
 -- "one that says Success to all"
 abbrev pub takes_everything : Updating
-takes_everything = updating_by (λ c w. Taken (proposal_at w)) after_decision
+takes_everything = updating_by (λ c w. Ok (proposal_at w)) after_decision
 
 -- "one that never logs"
 abbrev pub never_logs : Updating
@@ -113,11 +110,11 @@ never_logs = updating_by decide_of (λ c t d. afterwards (after_decision c t d).
 abbrev pub delayed : Proposal → Proposal
 delayed p = record { flags = p.flags; base = p.base + 1; zone = p.zone; dst = p.dst; source = p.source; accuracy = p.accuracy }
 
-abbrev pub settled_late : Clock → List ℕ → Decision → AfterDecision
-settled_late c t Unsupported = afterwards c t
-settled_late c t WrongLength = afterwards c t
-settled_late c t (Rejected flags) = afterwards c t
-settled_late c t (Taken p) = afterwards (accepted_of c p) (append_of t (update_record c (delayed p) (next t)))
+abbrev pub settled_late : Clock → List ℕ → Result Proposal NotTaken → AfterDecision
+settled_late c t (Err Unsupported) = afterwards c t
+settled_late c t (Err WrongLength) = afterwards c t
+settled_late c t (Err (Rejected flags)) = afterwards c t
+settled_late c t (Ok p) = afterwards (accepted_of c p) (append_of t (update_record c (delayed p) (next t)))
 
 abbrev pub logs_corrected : Updating
 logs_corrected = updating_by decide_of settled_late
@@ -161,13 +158,13 @@ pub record UpdatesShutOut : Type 0 where
 
 -- Record access.
 -- `access_of` with two parts open: the count of a Number, and what a report begins with
-unfoldable pub accessed_by : (Filter → List ℕ → ℕ) → (Filter → List ℕ → Left) → Clock → List ℕ → ℕ → Request → Accessed
-accessed_by counted begins c t opcode (asked.Report f) = begun_of c opcode f (begins f t)
-accessed_by counted begins c t opcode (asked.Number f) = accessed c (count_bytes number_response (counted f t))
-accessed_by counted begins c t opcode asked.Abort = aborted_of c c.running
-accessed_by counted begins c t opcode (asked.Refused k) = accessed c (code_bytes opcode k)
+unfoldable pub accessed_by : (Filter → List ℕ → ℕ) → (Filter → List ℕ → Option (ℕ × ℕ)) → Clock → List ℕ → ℕ → Result Request Code → Accessed
+accessed_by counted begins c t opcode (Ok (ReportOf f)) = begun_of c opcode f (begins f t)
+accessed_by counted begins c t opcode (Ok (Number f)) = accessed c (count_bytes number_response (counted f t))
+accessed_by counted begins c t opcode (Ok Abort) = aborted_of c c.running
+accessed_by counted begins c t opcode (Err k) = accessed c (code_bytes opcode k)
 
-unfoldable pub accessing_by : (Filter → List ℕ → ℕ) → (Filter → List ℕ → Left) → Accessing
+unfoldable pub accessing_by : (Filter → List ℕ → ℕ) → (Filter → List ℕ → Option (ℕ × ℕ)) → Accessing
 accessing_by counted begins c t w o =
     let a = first_failed (access_rows c t w o) in
     let done = accessed_by counted begins c t (opcode_in w) (request_of w) in
@@ -176,7 +173,7 @@ accessing_by counted begins c t w o =
 abbrev pub count_matching : Filter → List ℕ → ℕ
 count_matching f t = length (matching f t)
 
-abbrev pub first_match : Filter → List ℕ → Left
+abbrev pub first_match : Filter → List ℕ → Option (ℕ × ℕ)
 first_match f t = left_from f t 0
 
 -- "a Number answer not counted from held records": the next sequence number, or 0
@@ -188,7 +185,7 @@ numbers_none = accessing_by (λ f t. 0) first_match
 
 -- a report accepted whether anything matches or not
 abbrev pub accepts_any : Accessing
-accepts_any = accessing_by count_matching (λ f t. From 0 0)
+accepts_any = accessing_by count_matching (λ f t. (Some (0, 0)))
 
 pub record AccessShutOut : Type 0 where
   pub right : AcceptedWhenMatching access_of × NumberCounts access_of
@@ -205,13 +202,13 @@ pub record EndsReport (s : Faulting) : Type 0 where
   -- it refuses where a row fails, and nowhere else
   pub answers : (c : Clock) (t o : List ℕ) → done_b (s c t o).reply.answer ≡ done_b (first_failed (table_rows c t (leb 20 (length o))))
   -- after a fault that was answered 0 no report runs
-  pub idle : (c : Clock) (t o : List ℕ) → done_b (s c t o).reply.answer ≡ true → (s c t o).reply.clock.running ≡ Idle
+  pub idle : (c : Clock) (t o : List ℕ) → done_b (s c t o).reply.answer ≡ true → (s c t o).reply.clock.running ≡ None
   -- "A running report ends with RACP response 06 00, its opcode, 08."
-  pub says : (c : Clock) (t o : List ℕ) (r : Report) → done_b (s c t o).reply.answer ≡ true → c.running ≡ Reporting r
+  pub says : (c : Clock) (t o : List ℕ) (r : Report) → done_b (s c t o).reply.answer ≡ true → c.running ≡ Some r
       → response (s c t o) ≡ 0x06 ∷ 0x00 ∷ r.opcode ∷ 0x08 ∷ []
 
 -- `fault_of` with two parts open: the clock after it, and the response to a running report
-unfoldable pub faulting_by : (Clock → Clock) → (Running → List ℕ) → Faulting
+unfoldable pub faulting_by : (Clock → Clock) → (Option Report → List ℕ) → Faulting
 faulting_by faulted ending c t o =
     let a = first_failed (table_rows c t (leb 20 (length o))) in
     pick (done_b a) (answered (faulted c) (append_of t (fault_record c (next t))) (ending c.running) o) (refused a c t o)

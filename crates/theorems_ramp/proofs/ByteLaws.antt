@@ -7,8 +7,6 @@ use borrow.Author.Tests.{ne_eqb}
 use lib.Dec.{eqb}
 use lib.IntN.{ℤ, pos, negsuc, ◌-ℤ◌}
 use Rattle.carry.specs.Stamp.{carry_of, carrying_number}
-use Rattle.carry.specs.declared.stamp.Carried.{Carried}
-use Rattle.carry.specs.declared.stamp.Carried.TheVariants.{To, TableNotSound, NotHeld, FaultAmong}
 use Rattle.ramp.specs.Beast.{beast_by, one_beast_of}
 use Rattle.state_bytes.specs.Results.{refusal}
 use Rattle.tablet_bytes.specs.Calls.{CarriedTo, carrying, stamp_after, carry_at}
@@ -18,6 +16,9 @@ use Rattle.theorems_bytes.specs.Stamps.{zero_at, base_read, number_read, logged_
 use Rattle.theorems_bytes.proofs.StampLaws.{carried_stamp_at}
 use Rattle.theorems_ramp.specs.OneBeastAt.{Reader, Started, at_read, ran_since, OneBeastAt}
 use Rattle.theorems_ramp.proofs.BeastLaws.{SideIs, judged_is}
+use Rattle.carry.specs.declared.stamp.CarryError.{CarryError}
+use Rattle.carry.specs.declared.stamp.CarryError.TheVariants.{FaultAmong, NotHeld, TableNotSound}
+use Rattle.std.proofs.Common.{Err, Ok, Result}
 
 -- what `dts_carry` answers says what carrying answered
 zero_is : (n : ℕ) → zero_at (refusal n) ≡ eqb n 0
@@ -36,22 +37,22 @@ size_refusal (suc n) = refl
 same_number : (m n : ℕ) → refusal m ≡ refusal n → m ≡ n
 same_number m n e = sym (size_refusal m) ∙ ap size e ∙ size_refusal n
 
-is_not_held : (c : Carried) → carrying_number c ≡ 12 → c ≡ NotHeld
+is_not_held : (c : Result ℤ CarryError) → carrying_number c ≡ 12 → c ≡ Err NotHeld
 unfolding carrying_number
-is_not_held (To z) e = absurd (omega arith)
-is_not_held TableNotSound e = absurd (omega arith)
-is_not_held NotHeld e = refl
-is_not_held FaultAmong e = absurd (omega arith)
+is_not_held (Ok z) e = absurd (omega arith)
+is_not_held (Err TableNotSound) e = absurd (omega arith)
+is_not_held (Err NotHeld) e = refl
+is_not_held (Err FaultAmong) e = absurd (omega arith)
 
-is_fault : (c : Carried) → carrying_number c ≡ 13 → c ≡ FaultAmong
+is_fault : (c : Result ℤ CarryError) → carrying_number c ≡ 13 → c ≡ Err FaultAmong
 unfolding carrying_number
-is_fault (To z) e = absurd (omega arith)
-is_fault TableNotSound e = absurd (omega arith)
-is_fault NotHeld e = absurd (omega arith)
-is_fault FaultAmong e = refl
+is_fault (Ok z) e = absurd (omega arith)
+is_fault (Err TableNotSound) e = absurd (omega arith)
+is_fault (Err NotHeld) e = absurd (omega arith)
+is_fault (Err FaultAmong) e = refl
 
 -- what is carried on a side, by value
-abbrev carried_of : Reader → Carried
+abbrev carried_of : Reader → Result ℤ CarryError
 carried_of r = carry_of (base_read (at_read r) r.then) (number_read (at_read r) r.then) (run_at (at_read r) r.after).table
 
 side_at : (r : Reader) → CarriesAt (at_read r) r.after r.then r.now (pos 0)
@@ -61,7 +62,7 @@ side_at r k = record {
   exactly = sym (zero_is (carrying_number (carried_of r))) ∙ k.exactly;
   difference = λ z e.
       let n : refusal (carrying_number (carried_of r)) ≡ pos 0 = rw e in
-      ap (λ (c : Carried). pos (base_read (run_at (at_read r) r.after) r.now) -ℤ stamp_after (pos 0) c) (sym e) ∙ k.difference n;
+      ap (λ (c : Result ℤ CarryError). pos (base_read (run_at (at_read r) r.after) r.now) -ℤ stamp_after (pos 0) c) (sym e) ∙ k.difference n;
   not_held = λ h. is_not_held (carried_of r) (same_number _ 12 (ap (λ (x : CarriedTo). x.result) (k.not_held h)));
   fault = λ h n. is_fault (carried_of r) (same_number _ 13 (ap (λ (x : CarriedTo). x.result) (k.fault h n)));
 }

@@ -3,6 +3,7 @@
 use mathlib.Core.Path.{◌≡◌, refl, ◌∙◌, ap}
 use mathlib.Core.Bool.{true, false}
 use mathlib.Core.List.{[], ◌∷◌}
+use Rattle.std.proofs.Common.{Ok, Err}
 use Prim.Native.Nat.{ℕ, ◌+◌, ◌<◌}
 use native.Mathlib.Omega.{arith}
 use borrow.Author.Tests.{eq-eqb}
@@ -10,9 +11,9 @@ use lib.Dec.{eqb}
 use lib.ListN.{length}
 use Rattle.octets.proofs.Tests.{clash}
 use Rattle.table.specs.Table.{size_b}
-use Rattle.ramp.specs.Beast.{widest_window, verdict_of, beast_by, one_beast_of}
-use Rattle.ramp.specs.declared.beast.Verdict.{Verdict}
-use Rattle.ramp.specs.declared.beast.Verdict.TheVariants.{One, Two, WindowTooWide, LeftRefused, RightRefused}
+use Rattle.ramp.specs.Beast.{Verdict, widest_window, verdict_of, beast_by, one_beast_of}
+use Rattle.ramp.specs.declared.beast.Beasts.TheVariants.{One, Two}
+use Rattle.ramp.specs.declared.beast.RampError.TheVariants.{WindowTooWide, LeftRefused, RightRefused}
 use Rattle.theorems_reports.specs.World.{seconds}
 use Rattle.theorems_stamps.specs.Stamps.{logged_of}
 use Rattle.theorems_stamps.specs.Cases.{set, on}
@@ -24,11 +25,11 @@ use Rattle.theorems_ramp.specs.Wrong.{judge_with, ShutOut}
 
 -- a verdict as one number
 number : Verdict → ℕ
-number One = 1
-number Two = 2
-number WindowTooWide = 18
-number (LeftRefused n) = 100 + n
-number (RightRefused n) = 200 + n
+number (Ok One) = 1
+number (Ok Two) = 2
+number (Err WindowTooWide) = 18
+number (Err (LeftRefused n)) = 100 + n
+number (Err (RightRefused n)) = 200 + n
 
 -- so few records were logged that the theorem speaks of the history
 pub record Speaks (h : History) : Type 0 where

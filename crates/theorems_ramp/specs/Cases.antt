@@ -1,11 +1,11 @@
 -- Computed cases of the theorem One beast: its premises can hold, and what it says is then no empty word.
-use Rattle.std.specs.Prelude.{◌≡◌, List, [], ◌∷◌, ℕ}
+use Rattle.std.specs.Prelude.{◌≡◌, List, [], ◌∷◌, ℕ, Ok, Err}
 use Rattle.octets.specs.Parts.{same_b}
 use Rattle.record_write.specs.Layout.{update_values, fault_values}
 use Rattle.carry.specs.Stamp.{later_of, carried_over, carried_from, carry_of, carrying_number, no_fault_b, moved_by}
-use Rattle.ramp.specs.Beast.{age_of, within_b, judge_of, carried_or, verdict_of, beast_by}
-use Rattle.ramp.specs.declared.beast.Verdict.{Verdict}
-use Rattle.ramp.specs.declared.beast.Verdict.TheVariants.{One, Two, LeftRefused, RightRefused}
+use Rattle.ramp.specs.Beast.{Verdict, age_of, within_b, judge_of, carried_or, verdict_of, beast_by}
+use Rattle.ramp.specs.declared.beast.Beasts.TheVariants.{One, Two}
+use Rattle.ramp.specs.declared.beast.RampError.TheVariants.{LeftRefused, RightRefused}
 use Rattle.theorems_reports.specs.World.{World, new_world, Call, seconds, fault, run_of}
 use Rattle.theorems_reports.specs.Open.{calls_open}
 use Rattle.theorems_stamps.specs.Stamps.{ran_in, ran_of, logged_in, logged_of, values_of, same_records_b, all_held_b}
@@ -65,8 +65,8 @@ overwritten_left h = history 80 (on ∷ set h 800000600 ∷ seconds 100 ∷ []) 
 pub record Computed : Type 0 where
   pub writable : Writable
   -- the stamps are 595 seconds apart, the reads 5
-  pub story : result_by (beast_by carry_of) (story_left writable) (story_right writable) 5 ≡ told 800000700 800000105 3605 3600 One
-  pub narrower : result_by (beast_by carry_of) (story_left writable) (story_right writable) 4 ≡ told 800000700 800000105 3605 3600 Two
-  pub other_way : result_by (beast_by carry_of) (story_right writable) (story_left writable) 5 ≡ told 800000105 800000700 3600 3605 One
-  pub faulted : result_by (beast_by carry_of) (story_left writable) (faulted_right writable) 5 ≡ told 800000700 800000105 3605 3600 (RightRefused 13)
-  pub overwritten : result_by (beast_by carry_of) (overwritten_left writable) (faulted_right writable) 5 ≡ told 800000700 800000105 3605 3600 (LeftRefused 12)
+  pub story : result_by (beast_by carry_of) (story_left writable) (story_right writable) 5 ≡ told 800000700 800000105 3605 3600 (Ok One)
+  pub narrower : result_by (beast_by carry_of) (story_left writable) (story_right writable) 4 ≡ told 800000700 800000105 3605 3600 (Ok Two)
+  pub other_way : result_by (beast_by carry_of) (story_right writable) (story_left writable) 5 ≡ told 800000105 800000700 3600 3605 (Ok One)
+  pub faulted : result_by (beast_by carry_of) (story_left writable) (faulted_right writable) 5 ≡ told 800000700 800000105 3605 3600 (Err (RightRefused 13))
+  pub overwritten : result_by (beast_by carry_of) (overwritten_left writable) (faulted_right writable) 5 ≡ told 800000700 800000105 3605 3600 (Err (LeftRefused 12))

@@ -1,13 +1,13 @@
 -- The theorem One beast (change request E5): two readers started new, any calls on each, a beast seen by both at two instants. The way of judging is
 -- left open, so that wrong ways can be shown wrong.
-use Rattle.std.specs.Prelude.{◌≡◌, Bool, true, List, ℕ, ◌+◌, ◌-◌, ◌≤◌, ◌<◌, leb, eqb, length}
+use Rattle.std.specs.Prelude.{◌≡◌, Bool, true, List, ℕ, ◌+◌, ◌-◌, ◌≤◌, ◌<◌, leb, eqb, length, Ok, Err}
 use Rattle.octets.specs.Choice.{pick}
 use Rattle.table.specs.Table.{size_b, next}
 use Rattle.carry.specs.Stamp.{no_fault_b, carry_of}
-use Rattle.ramp.specs.Beast.{widest_window, beast_by}
+use Rattle.ramp.specs.Beast.{Verdict, widest_window, beast_by}
 use Rattle.ramp.specs.declared.beast.Seen.{Seen}
-use Rattle.ramp.specs.declared.beast.Verdict.{Verdict}
-use Rattle.ramp.specs.declared.beast.Verdict.TheVariants.{One, Two, WindowTooWide, LeftRefused, RightRefused}
+use Rattle.ramp.specs.declared.beast.Beasts.TheVariants.{One, Two}
+use Rattle.ramp.specs.declared.beast.RampError.TheVariants.{WindowTooWide, LeftRefused, RightRefused}
 use Rattle.theorems_reports.specs.World.{World, new_world, Call, run_of}
 use Rattle.theorems_stamps.specs.Stamps.{ran_of, logged_of, Carrying, all_held_b, CarriedStamp}
 
@@ -39,10 +39,10 @@ truth_of window left_number left_ran right_number right_ran =
     pick (leb window widest_window)
     (pick (eqb left_number 0)
     (pick (eqb right_number 0)
-    (pick (leb (apart left_ran right_ran) window) One Two)
-    (RightRefused right_number))
-    (LeftRefused left_number))
-    WindowTooWide
+    (Ok (pick (leb (apart left_ran right_ran) window) One Two))
+    (Err (RightRefused right_number)))
+    (Err (LeftRefused left_number)))
+    (Err WindowTooWide)
 
 abbrev pub truth_after : World → List Call → World → List Call → ℕ → Verdict
 truth_after l la r ra window =
@@ -68,8 +68,8 @@ ByCarrying = (carry : Carrying) → CarriedStamp carry → OneBeast (beast_by ca
 -- Where both antennas can be carried, told by the seconds between the two reads: the left one's came x seconds before the right one's, or after
 -- it, and since the later read both clocks counted the same n seconds.
 pub record Between (l : World) (la : List Call) (r : World) (ra : List Call) (window : ℕ) : Type 0 where
-  pub left_first : (x n : ℕ) → ran_of l la ≡ x + n → ran_of r ra ≡ n → verdict_after (beast_by carry_of) l la r ra window ≡ pick (leb x window) One Two
-  pub right_first_lem : (x n : ℕ) → ran_of l la ≡ n → ran_of r ra ≡ x + n → verdict_after (beast_by carry_of) l la r ra window ≡ pick (leb x window) One Two
+  pub left_first : (x n : ℕ) → ran_of l la ≡ x + n → ran_of r ra ≡ n → verdict_after (beast_by carry_of) l la r ra window ≡ Ok (pick (leb x window) One Two)
+  pub right_first_lem : (x n : ℕ) → ran_of l la ≡ n → ran_of r ra ≡ x + n → verdict_after (beast_by carry_of) l la r ra window ≡ Ok (pick (leb x window) One Two)
 
 abbrev pub BetweenReads : Type 0
 BetweenReads = (lt rt : List ℕ) (lb la rb ra : List Call) (window : ℕ) → size_b (length lt) ≡ true → size_b (length rt) ≡ true → window ≤ widest_window

@@ -1,27 +1,28 @@
 -- Wrong ways to judge one beast or two, which the theorem One beast shuts out; and one that no history of calls tells from the right one, since no
 -- clock runs backwards by itself, but the call's own equation does.
-use Rattle.std.specs.Prelude.{◌≡◌, List, ℕ, ◌-◌, leb, ℤ, pos, negsuc, nat_abs}
+use Rattle.std.specs.Prelude.{◌≡◌, List, ℕ, ◌-◌, leb, ℤ, pos, negsuc, nat_abs, Ok, Err}
 use Rattle.octets.specs.Choice.{pick}
 use Rattle.table_write.specs.Start.{fresh}
 use Rattle.carry.specs.Stamp.{carry_of}
 use Rattle.ramp.specs.Beast.{widest_window, age_of, judge_of, carried_or, one_beast_of}
 use Rattle.ramp.specs.declared.beast.Seen.{Seen}
-use Rattle.ramp.specs.declared.beast.Verdict.{Verdict}
-use Rattle.ramp.specs.declared.beast.Verdict.TheVariants.{One, Two, WindowTooWide, LeftRefused, RightRefused}
+use Rattle.ramp.specs.declared.beast.Beasts.{Beasts}
+use Rattle.ramp.specs.declared.beast.Beasts.TheVariants.{One, Two}
+use Rattle.ramp.specs.declared.beast.RampError.TheVariants.{WindowTooWide, LeftRefused, RightRefused}
 use Rattle.theorems_ramp.specs.OneBeast.{Judging, OneBeast}
 
 -- how two carried stamps are compared, with both clocks' Base_Time: right is by their ages
 abbrev pub Comparing : Type 0
-Comparing = ℕ → ℕ → ℤ → ℕ → ℤ → Verdict
+Comparing = ℕ → ℕ → ℤ → ℕ → ℤ → Beasts
 
 -- judging, with each part that can be wrong: the widest window, and how two carried stamps are compared
 unfoldable pub judge_with : ℕ → Comparing → Judging
 judge_with widest compare left leftTable right rightTable window =
     pick (leb window widest)
     (carried_or
-    (λ l. carried_or (λ r. compare window left.base l right.base r) RightRefused (carry_of right.stamp right.next rightTable))
-    LeftRefused (carry_of left.stamp left.next leftTable))
-    WindowTooWide
+    (λ l. carried_or (λ r. Ok (compare window left.base l right.base r)) (λ n. Err (RightRefused n)) (carry_of right.stamp right.next rightTable))
+    (λ n. Err (LeftRefused n)) (carry_of left.stamp left.next leftTable))
+    (Err WindowTooWide)
 
 abbrev pub by_ages : Comparing
 by_ages window lb l rb r = judge_of window (age_of lb l) (age_of rb r)
@@ -39,13 +40,13 @@ unfoldable pub right_first : Judging
 right_first left leftTable right rightTable window =
     pick (leb window widest_window)
     (carried_or
-    (λ r. carried_or (λ l. by_ages window left.base l right.base r) LeftRefused (carry_of left.stamp left.next leftTable))
-    RightRefused (carry_of right.stamp right.next rightTable))
-    WindowTooWide
+    (λ r. carried_or (λ l. Ok (by_ages window left.base l right.base r)) (λ n. Err (LeftRefused n)) (carry_of left.stamp left.next leftTable))
+    (λ n. Err (RightRefused n)) (carry_of right.stamp right.next rightTable))
+    (Err WindowTooWide)
 
 -- the stamps as they were noted, not carried
 unfoldable pub uncarried : Judging
-uncarried left leftTable right rightTable window = pick (leb window widest_window) (judge_of window (pos left.stamp) (pos right.stamp)) WindowTooWide
+uncarried left leftTable right rightTable window = pick (leb window widest_window) (Ok (judge_of window (pos left.stamp) (pos right.stamp))) (Err WindowTooWide)
 
 -- unsigned ages: one below 0 is 0
 unfoldable pub unsigned : ℤ → ℤ

@@ -9,8 +9,7 @@ use lib.ListN.{length, take, drop}
 use lib.Seq.{take_at}
 use Rattle.octets.specs.Choice.{both, either}
 use Rattle.octets.specs.Parts.{over}
-use Rattle.clock.specs.Answers.{number_of}
-use Rattle.clock.specs.declared.answers.Answer.{Answer}
+use Rattle.clock.specs.Answers.{number_of, Answer}
 use Rattle.clock.specs.declared.state.Clock.{Clock}
 use Rattle.rows.specs.Reply.{done_b, answered, Outcome}
 use Rattle.rows.specs.Rows.{first_failed, idle_b, write_rows}

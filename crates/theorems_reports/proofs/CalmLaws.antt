@@ -11,7 +11,6 @@ use Rattle.filter.specs.declared.filter.Filter.{Filter}
 use Rattle.record.specs.declared.kinds.Record.{Record}
 use Rattle.table.specs.Table.{sound_b}
 use Rattle.clock.specs.declared.state.Clock.{Clock}
-use Rattle.clock.specs.declared.state.Running.{Running}
 use Rattle.rows.specs.Rows.{idle_b}
 use Rattle.theorems_reports.specs.World.{World, world, Call, step_of}
 use Rattle.theorems_reports.specs.Hearing.{undisturbed_b, calm_b, all_calm_b}
@@ -20,6 +19,8 @@ use Rattle.theorems_reports.specs.Closing.{quiet_b, all_quiet_b}
 use Rattle.theorems_reports.proofs.RunLaws.{Runs, closes, last, more}
 use Rattle.theorems_reports.proofs.StepLaws.{Step, still, asked, ended, step}
 use Rattle.theorems_reports.proofs.CloseLaws.{Asks, asks, askings_read}
+use Rattle.clock.specs.declared.state.Report.{Report}
+use Rattle.std.proofs.Common.{Option}
 
 quiet_reads : (v : World) (a : Call) (ks : List Call) → all_quiet_b v (a ∷ ks) ≡ true → (quiet_b v a ≡ true) × (all_quiet_b (step_of v a) ks ≡ true)
 unfolding all_quiet_b
@@ -31,7 +32,7 @@ module _ (t : List ℕ) (sd : sound_b t ≡ true) (hb : Bytes t) (opcode : ℕ) 
       → undisturbed_b (world c t) ks ≡ true
 
   runs_on : {d : Clock} {k sent : ℕ} {l : List Record} → Runs t sd hb opcode f d k sent l → not (idle_b d.running) ≡ true
-  runs_on r = ap (λ (x : Running). not (idle_b x)) r.running
+  runs_on r = ap (λ (x : Option Report). not (idle_b x)) r.running
 
   quiet_step : {c : Clock} {k sent : ℕ} (ks : List Call) {l : List Record} {a : Call} → Step t sd hb opcode f c k sent l a
       → quiet_b (world c t) a ≡ true → all_quiet_b (step_of (world c t) a) ks ≡ true → Later ks → undisturbed_b (world c t) (a ∷ ks) ≡ true

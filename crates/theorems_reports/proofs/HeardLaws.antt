@@ -15,7 +15,6 @@ use Rattle.filter.specs.declared.filter.Filter.{Filter}
 use Rattle.record_write.specs.Layout.{bytes_of}
 use Rattle.record_read.specs.Reading.{read_of}
 use Rattle.record.specs.declared.kinds.Record.{Record}
-use Rattle.record.specs.declared.kinds.Reading.TheVariants.{Is}
 use Rattle.record_read.proofs.RoundTrip.{length_bytes}
 use Rattle.table.specs.Table.{sound_b}
 use Rattle.clock.specs.declared.state.Clock.{Clock}
@@ -32,6 +31,7 @@ use Rattle.theorems_reports.specs.Joined.{Got, add, join_all}
 use Rattle.theorems_reports.proofs.JoinLaws.{Synced, join_last, join_more}
 use Rattle.theorems_reports.proofs.RunLaws.{Runs, closes, last, more, ending}
 use Rattle.theorems_reports.proofs.StepLaws.{Step, still, asked, ended, step}
+use Rattle.std.proofs.Common.{Some}
 
 pub room_reads : (p n : ℕ) → room_b p n ≡ true → 20 ≤ p
 unfolding room_b
@@ -69,7 +69,7 @@ module _ (t : List ℕ) (sd : sound_b t ≡ true) (hb : Bytes t) (opcode : ℕ) 
   -- nothing is refused, and once it is closed the records are those that were left
   pub record Holds (j : Joining) (l : List Record) (h : Hearing) : Type 0 where
     pub fine : (join_all j h.notes).fine ≡ true
-    pub all : h.closed ≡ true → (join_all j h.notes).records ≡ map Is l
+    pub all : h.closed ≡ true → (join_all j h.notes).records ≡ map Some l
     pub response : h.closed ≡ true → h.response ≡ ending t sd hb opcode f
 
   holds_closed : (j : Joining) → Holds j [] (hearing [] true (ending t sd hb opcode f))
@@ -79,7 +79,7 @@ module _ (t : List ℕ) (sd : sound_b t ≡ true) (hb : Bytes t) (opcode : ℕ) 
   -- a segment in front: the last of a record, or another
   holds_last : (j i : Joining) (n : List ℕ) (x : Record) (l : List Record) (h : Hearing)
       → join_all j (n ∷ h.notes) ≡ add Whole i (join_all i h.notes)
-      → read_of (joined_in i) ≡ Is x → Holds i l h → Holds j (x ∷ l) (onward (segment n) h)
+      → read_of (joined_in i) ≡ Some x → Holds i l h → Holds j (x ∷ l) (onward (segment n) h)
   holds_last j i n x l h e q s =
       record {
         fine = ap (λ (g : Got). g.fine) e ∙ s.fine;

@@ -17,17 +17,15 @@ use Rattle.record.specs.Fields.{sequence_of}
 use Rattle.record_write.specs.Layout.{bytes_of, record_of}
 use Rattle.record_read.specs.Reading.{well_formed_b, read_of}
 use Rattle.record.specs.declared.kinds.Record.{Record}
-use Rattle.record.specs.declared.kinds.Reading.TheVariants.{Is}
 use Rattle.record_read.proofs.RoundTrip.{write_back, length_bytes}
 use Rattle.table.specs.Table.{count, oldest, slot, bytes_in, record_in, held, age_of, sound_b, steps}
 use Rattle.table_look.specs.Matching.{matching_from, matches_at}
 use Rattle.table.proofs.SlotLaws.{slot_at, held_slot}
 use Rattle.table_look.proofs.LookLaws.{age_held, drop_held, matching_yes, matching_no, match_first, none_left, next_here, next_later, next_none}
-use Rattle.clock.specs.declared.state.Left.{Left}
-use Rattle.clock.specs.declared.state.Left.TheVariants.{Nothing, From}
 use Rattle.racp_access.specs.Report.{first_number, left_at, left_from}
+use Rattle.std.proofs.Common.{None, Option, Some}
 
-read_well : (b : List ℕ) → well_formed_b b ≡ true → read_of b ≡ Is (record_of b)
+read_well : (b : List ℕ) → well_formed_b b ≡ true → read_of b ≡ Some (record_of b)
 unfolding read_of
 read_well b h = rw h
 
@@ -38,7 +36,7 @@ bytes_slot t o h =
 
 module _ (t : List ℕ) (sd : sound_b t ≡ true) where
   -- the bytes of a held record read back as that record
-  pub held_reads : (k : ℕ) → Bytes t → k < count t → read_of (bytes_of (record_in (slot_at t k))) ≡ Is (record_in (slot_at t k))
+  pub held_reads : (k : ℕ) → Bytes t → k < count t → read_of (bytes_of (record_in (slot_at t k))) ≡ Some (record_in (slot_at t k))
   unfolding record_in
   held_reads k hb h =
       let x = read_well (bytes_in (slot_at t k)) (held_slot t k sd h).well in
@@ -51,11 +49,11 @@ module _ (t : List ℕ) (sd : sound_b t ≡ true) where
     pub matches : matches_b f (count t) (age_of t number) number ≡ true
     pub later : rest ≡ matching_from f (count t) (age_of t number + 1) (drop (age_of t number + 1) (held t))
     pub unsent : sent < length (bytes_of x)
-    pub reads : read_of (bytes_of x) ≡ Is x
+    pub reads : read_of (bytes_of x) ≡ Some x
 
-  pub data Stands (f : Filter) : Left → ℕ → List Record → Type 0 where
-    none : Stands f Nothing 0 []
-    some : {number sent : ℕ} {x : Record} {rest : List Record} → Here f number sent x rest → Stands f (From number sent) sent (x ∷ rest)
+  pub data Stands (f : Filter) : Option (ℕ × ℕ) → ℕ → List Record → Type 0 where
+    none : Stands f None 0 []
+    some : {number sent : ℕ} {x : Record} {rest : List Record} → Here f number sent x rest → Stands f (Some (number, sent)) sent (x ∷ rest)
 
   module _ (f : Filter) (hb : Bytes t) where
     nobody : (k : ℕ) → count t ≤ k → Stands f (left_from f t k) 0 (matching_from f (count t) k (drop k (held t)))

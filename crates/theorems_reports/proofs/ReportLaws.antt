@@ -9,8 +9,6 @@ use lib.ListN.{length}
 use Rattle.octets.specs.Numbers.{bytes2}
 use Rattle.octets.specs.Parts.{Bytes}
 use Rattle.filter.specs.declared.filter.Filter.{Filter}
-use Rattle.record.specs.declared.kinds.Reading.{Reading}
-use Rattle.record.specs.declared.kinds.Reading.TheVariants.{Is}
 use Rattle.table.specs.Table.{sound_b}
 use Rattle.table_look.specs.Matching.{matching}
 use Rattle.clock.specs.Obeys.{opcode_b}
@@ -30,6 +28,8 @@ use Rattle.theorems_reports.proofs.BeginLaws.{accepted}
 use Rattle.theorems_reports.proofs.CloseLaws.{closes_soon, exactly}
 use Rattle.theorems_reports.proofs.CalmLaws.{quiet_undisturbed, calm_quiet, askings_calm}
 use Rattle.theorems_reports.proofs.AmongLaws.{closes_among}
+use Rattle.record.specs.declared.kinds.Record.{Record}
+use Rattle.std.proofs.Common.{Option, Some}
 
 -- the closing response in the paper's numbers
 module _ (t : List ℕ) (sd : sound_b t ≡ true) (hb : Bytes t) (f : Filter) where
@@ -47,7 +47,7 @@ unfolding opcode_b
 finished t w sd hb f h k s c =
     record {
       opcode = k;
-      joined = ap (λ (l : List Reading). got l (join_all empty_joining h.notes).fine) (s.all c) ∙ ap (got (map Is (matching f t))) s.fine;
+      joined = ap (λ (l : List (Option Record)). got l (join_all empty_joining h.notes).fine) (s.all c) ∙ ap (got (map Some (matching f t))) s.fine;
       closes_1 = λ e. s.response c ∙ ending_1 t sd hb f (opcode_in w) e;
       closes_7 = λ e. s.response c ∙ ending_7 t sd hb f (opcode_in w) e;
     }

@@ -10,26 +10,27 @@ use Rattle.filter.specs.declared.filter.Filter.{Filter}
 use Rattle.clock.specs.Obeys.{opcode_b}
 use Rattle.racp_request.specs.Request.{opcode_in, request_of}
 use Rattle.codes.specs.declared.response.Code.{Code}
-use Rattle.racp_request.specs.declared.request.Request.{Request}
-use Rattle.racp_request.specs.declared.request.Request.TheVariants.{Report, Number, Abort, Refused}
 use Rattle.racp_request.proofs.RequestLaws.{report_reads, number_reads, abort_reads}
+use Rattle.racp_request.specs.declared.request.Request.{Request}
+use Rattle.racp_request.specs.declared.request.Request.TheVariants.{Abort, Number, Report}
+use Rattle.std.proofs.Common.{Err, Ok, Result}
 
 -- what a write asks for goes with its opcode
-pub data Right (opcode : ℕ) : Request → Type 0 where
-  reports : {f : Filter} → opcode_b opcode ≡ true → Right opcode (Report f)
-  numbers : {f : Filter} → eqb opcode 4 ≡ true → Right opcode (Number f)
-  ends : eqb opcode 3 ≡ true → Right opcode Abort
-  refuses : {k : Code} → Right opcode (Refused k)
+pub data Right (opcode : ℕ) : Result Request Code → Type 0 where
+  reports : {f : Filter} → opcode_b opcode ≡ true → Right opcode (Ok (Report f))
+  numbers : {f : Filter} → eqb opcode 4 ≡ true → Right opcode (Ok (Number f))
+  ends : eqb opcode 3 ≡ true → Right opcode (Ok Abort)
+  refuses : {k : Code} → Right opcode (Err k)
 
 -- a report that is asked for has the opcode 1 or 7
-pub request_report : (w : List ℕ) (f : Filter) → request_of w ≡ Report f → opcode_b (opcode_in w) ≡ true
+pub request_report : (w : List ℕ) (f : Filter) → request_of w ≡ Ok (Report f) → opcode_b (opcode_in w) ≡ true
 request_report w f q = (report_reads w f q).0
 
 pub request_right : (w : List ℕ) → Right (opcode_in w) (request_of w)
 request_right w = go (request_of w) refl
   where
-    go : (r : Request) → request_of w ≡ r → Right (opcode_in w) r
-    go (Report f) q = reports (request_report w f q)
-    go (Number f) q = numbers (eq-eqb _ _ (number_reads w f q).0)
-    go Abort q = ends (eq-eqb _ _ (abort_reads w q))
-    go (Refused k) q = refuses
+    go : (r : Result Request Code) → request_of w ≡ r → Right (opcode_in w) r
+    go (Ok (Report f)) q = reports (request_report w f q)
+    go (Ok (Number f)) q = numbers (eq-eqb _ _ (number_reads w f q).0)
+    go (Ok Abort) q = ends (eq-eqb _ _ (abort_reads w q))
+    go (Err k) q = refuses

@@ -16,17 +16,12 @@ use Rattle.filter.specs.declared.filter.Filter.{Filter}
 use Rattle.record_write.specs.Layout.{bytes_of}
 use Rattle.record_read.specs.Reading.{read_of}
 use Rattle.record.specs.declared.kinds.Record.{Record}
-use Rattle.record.specs.declared.kinds.Reading.TheVariants.{Is}
 use Rattle.table.specs.Table.{count, held, age_of, sound_b}
 use Rattle.table_look.specs.Matching.{matching}
 use Rattle.clock.specs.State.{with_running}
 use Rattle.clock.specs.Answers.{number_of}
 use Rattle.clock.specs.Obeys.{clock_b, running_b}
-use Rattle.clock.specs.declared.answers.Answer.TheVariants.{OutputShort}
 use Rattle.clock.specs.declared.state.Clock.{Clock}
-use Rattle.clock.specs.declared.state.Left.{Left}
-use Rattle.clock.specs.declared.state.Left.TheVariants.{Nothing, From}
-use Rattle.clock.specs.declared.state.Running.TheVariants.{Reporting}
 use Rattle.clock.proofs.RuleLaws.{clock_reads, running_reads, running_makes}
 use Rattle.clock.proofs.EventLaws.{with_running_obeys}
 use Rattle.rows.specs.Reply.{done_b}
@@ -40,6 +35,8 @@ use Rattle.racp_notify.specs.Notify.{room_b, notify_rows, counter_after, last_b,
 use Rattle.theorems_reports.specs.World.{world, notify, step_by, step_of}
 use Rattle.theorems_reports.specs.Hearing.{nothing, segment, closing, heard_in, heard_by, heard_of}
 use Rattle.theorems_reports.proofs.HeldLaws.{Here, Stands, none, some, left_stands}
+use Rattle.std.proofs.Common.{None, Option, Some, Err}
+use Rattle.clock.specs.declared.answers.Refusal.TheVariants.{OutputShort}
 
 -- what a notification says is what is heard
 heard_noticed : (s : Said) (o : List ℕ) → heard_in (noticed s o) ≡ pick s.closes (closing s.bytes) (segment s.bytes)
@@ -47,7 +44,7 @@ unfolding heard_in noticed over done_b number_of
 heard_noticed s o =
     ap (λ (b : List ℕ). pick s.closes (closing b) (segment b)) (take_at s.bytes (drop (0 + length s.bytes) o) (length s.bytes) refl)
 
-pub heard_unsaid : (c : Clock) (o : List ℕ) → heard_in (unsaid OutputShort c o) ≡ nothing
+pub heard_unsaid : (c : Clock) (o : List ℕ) → heard_in (unsaid (Err OutputShort) c o) ≡ nothing
 unfolding heard_in done_b number_of
 heard_unsaid c o = refl
 
@@ -55,11 +52,11 @@ module _ (t : List ℕ) (sd : sound_b t ≡ true) (hb : Bytes t) (opcode : ℕ) 
   -- k is the report's counter; of the first of the records l that it has left, `sent` bytes are sent
   pub record Runs (c : Clock) (k sent : ℕ) (l : List Record) : Type 0 where
     pub clock : clock_b c ≡ true
-    pub rest : Left
-    pub running : c.running ≡ Reporting (report opcode f k rest)
+    pub rest : Option (ℕ × ℕ)
+    pub running : c.running ≡ Some (report opcode f k rest)
     pub stands : Stands t sd f rest sent l
 
-  pub left_ok : {rest : Left} {sent : ℕ} {l : List Record} → Stands t sd f rest sent l → left_b t f rest ≡ true
+  pub left_ok : {rest : Option (ℕ × ℕ)} {sent : ℕ} {l : List Record} → Stands t sd f rest sent l → left_b t f rest ≡ true
   unfolding left_b
   left_ok none = refl
   left_ok (some {number} {sent} {x} {rest} h) =
@@ -72,8 +69,8 @@ module _ (t : List ℕ) (sd : sound_b t ≡ true) (hb : Bytes t) (opcode : ℕ) 
   whole r = both_yes r.clock ∙ rw r.running (left_ok r.stands)
 
   -- the report goes on with other records left
-  goes_on : {c : Clock} {k sent m : ℕ} {l ls : List Record} (rest : Left) → Runs c k sent l → Stands t sd f rest m ls
-      → Runs (with_running c (Reporting (report opcode f (counter_after k) rest))) (counter_after k) m ls
+  goes_on : {c : Clock} {k sent m : ℕ} {l ls : List Record} (rest : Option (ℕ × ℕ)) → Runs c k sent l → Stands t sd f rest m ls
+      → Runs (with_running c (Some (report opcode f (counter_after k) rest))) (counter_after k) m ls
   goes_on {c} {k} rest r s =
       let e = running_reads _ (ap running_b (sym r.running) ∙ (clock_reads c r.clock).running) in
       record {
@@ -92,7 +89,7 @@ module _ (t : List ℕ) (sd : sound_b t ≡ true) (hb : Bytes t) (opcode : ℕ) 
   notify_done p o r room = rw (sd, whole r, room, r.running)
 
   pub notify_short : {c : Clock} {k sent : ℕ} {l : List Record} (p : ℕ) (o : List ℕ) (r : Runs c k sent l) → room_b p (length o) ≡ false
-      → notify_of c t p o ≡ unsaid OutputShort c o
+      → notify_of c t p o ≡ unsaid (Err OutputShort) c o
   unfolding notify_of notify_rows table_rows first_failed done_b number_of
   notify_short p o r room = rw (sd, whole r, room)
 
@@ -103,10 +100,10 @@ module _ (t : List ℕ) (sd : sound_b t ≡ true) (hb : Bytes t) (opcode : ℕ) 
   -- a notification with a body of q bytes: the closing response where no record is left, else a segment of the first one
   pub data Told (c : Clock) (p : ℕ) (o : List ℕ) (k sent : ℕ) : List Record → Type 0 where
     closes : heard_of (world c t) (notify p o) ≡ closing ending → Told c p o k sent []
-    last : {x : Record} {rest : List Record} {d : Clock} → sent < length (bytes_of x) → read_of (bytes_of x) ≡ Is x → length (bytes_of x) ≤ sent + (p - 1)
+    last : {x : Record} {rest : List Record} {d : Clock} → sent < length (bytes_of x) → read_of (bytes_of x) ≡ Some x → length (bytes_of x) ≤ sent + (p - 1)
         → heard_of (world c t) (notify p o) ≡ segment (segment_of (p - 1) sent k (bytes_of x))
         → step_of (world c t) (notify p o) ≡ world d t → Runs d (counter_after k) 0 rest → Told c p o k sent (x ∷ rest)
-    more : {x : Record} {rest : List Record} {d : Clock} → sent < length (bytes_of x) → read_of (bytes_of x) ≡ Is x → sent + (p - 1) < length (bytes_of x)
+    more : {x : Record} {rest : List Record} {d : Clock} → sent < length (bytes_of x) → read_of (bytes_of x) ≡ Some x → sent + (p - 1) < length (bytes_of x)
         → heard_of (world c t) (notify p o) ≡ segment (segment_of (p - 1) sent k (bytes_of x))
         → step_of (world c t) (notify p o) ≡ world d t → Runs d (counter_after k) (sent + (p - 1)) (x ∷ rest) → Told c p o k sent (x ∷ rest)
 
@@ -121,13 +118,13 @@ module _ (t : List ℕ) (sd : sound_b t ≡ true) (hb : Bytes t) (opcode : ℕ) 
     step_is = ap (λ (n : Notice). world n.reply.clock t) (notify_done p o r room)
 
   told_closes : {c : Clock} {k sent : ℕ} {l : List Record} (p : ℕ) (o : List ℕ) (r : Runs c k sent l) → room_b p (length o) ≡ true
-      → r.rest ≡ Nothing → heard_of (world c t) (notify p o) ≡ closing ending
+      → r.rest ≡ None → heard_of (world c t) (notify p o) ≡ closing ending
   unfolding said_of closing_of ending
   told_closes p o r room e = rw e at (heard_is p o r room)
 
   -- of the record that is next
   module _ {c : Clock} {k sent : ℕ} {l : List Record} (p : ℕ) (o : List ℕ) (r : Runs c k sent l) (room : room_b p (length o) ≡ true) (number : ℕ)
-      (x : Record) (rest : List Record) (h : Here t sd f number sent x rest) (e : r.rest ≡ From number sent) where
+      (x : Record) (rest : List Record) (h : Here t sd f number sent x rest) (e : r.rest ≡ Some (number, sent)) where
     bytes_here : first_bytes (drop (age_of t number) (held t)) ≡ bytes_of x
     unfolding first_bytes
     bytes_here = ap first_bytes h.here
@@ -137,7 +134,7 @@ module _ (t : List ℕ) (sd : sound_b t ≡ true) (hb : Bytes t) (opcode : ℕ) 
     heard_segment = rw (e, bytes_here) at (heard_is p o r room)
 
     step_segment : step_of (world c t) (notify p o)
-        ≡ world (with_running c (Reporting (report opcode f (counter_after k) (left_after f t (p - 1) number sent (bytes_of x))))) t
+        ≡ world (with_running c (Some (report opcode f (counter_after k) (left_after f t (p - 1) number sent (bytes_of x))))) t
     unfolding said_of
     step_segment = rw (e, bytes_here) at (step_is p o r room)
 
@@ -156,6 +153,6 @@ module _ (t : List ℕ) (sd : sound_b t ≡ true) (hb : Bytes t) (opcode : ℕ) 
   pub told : {c : Clock} {k sent : ℕ} {l : List Record} (p : ℕ) (o : List ℕ) (r : Runs c k sent l) → room_b p (length o) ≡ true → Told c p o k sent l
   told {c} {k} p o r room = go r refl r.stands
     where
-      go : {sent : ℕ} {l : List Record} {rest : Left} (r : Runs c k sent l) → r.rest ≡ rest → Stands t sd f rest sent l → Told c p o k sent l
+      go : {sent : ℕ} {l : List Record} {rest : Option (ℕ × ℕ)} (r : Runs c k sent l) → r.rest ≡ rest → Stands t sd f rest sent l → Told c p o k sent l
       go r e none = closes (told_closes p o r room e)
       go r e (some {number} {sent} {x} {rest} h) = told_segment p o r room number x rest h e _ refl

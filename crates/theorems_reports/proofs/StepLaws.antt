@@ -14,8 +14,7 @@ use Rattle.record.specs.declared.kinds.Record.{Record}
 use Rattle.table.specs.Table.{sound_b}
 use Rattle.clock.specs.Answers.{number_of}
 use Rattle.clock.specs.Obeys.{opcode_b, clock_b}
-use Rattle.clock.specs.Events.{with_base, disconnected}
-use Rattle.clock.specs.declared.events.Event.{Event}
+use Rattle.clock.specs.Events.{with_base, disconnected, Event}
 use Rattle.clock.specs.declared.state.Clock.{Clock}
 use Rattle.clock.proofs.EventLaws.{Seconds, refuses_2, refuses_7, rises, Changed, changes, seconds_is, switches_is, disconnect_done}
 use Rattle.theorems_clock.proofs.PromiseLaws.{obeys}
@@ -27,7 +26,6 @@ use Rattle.update.proofs.FaultLaws.{fault_refused, fault_done}
 use Rattle.update_logged.proofs.PromiseLaws.{passed}
 use Rattle.update.proofs.UpdateLaws.{update_refused}
 use Rattle.racp_request.specs.Request.{opcode_in, request_of}
-use Rattle.racp_request.specs.declared.request.Request.{Request}
 use Rattle.racp_access.specs.Access.{access_rows, accessed, aborted_of, accessed_of, access_of}
 use Rattle.racp_notify.specs.Notify.{room_b, Notice}
 use Rattle.theorems_reports.specs.World.{World, world, Call, seconds, switches, disconnect, fault, time_update, record_access, notify, world_after, step_by, step_of}
@@ -36,6 +34,9 @@ use Rattle.theorems_reports.specs.Closing.{answer_of, quiet_b}
 use Rattle.theorems_reports.proofs.RequestLaws.{Right, reports, numbers, ends, refuses, request_right}
 use Rattle.theorems_reports.proofs.AccessLaws.{left_refused, left_done, answer_done, rows_passed}
 use Rattle.theorems_reports.proofs.RunLaws.{Runs, Told, told, notify_short, heard_unsaid}
+use Rattle.codes.specs.declared.response.Code.{Code}
+use Rattle.racp_request.specs.declared.request.Request.{Request}
+use Rattle.std.proofs.Common.{Result}
 
 -- seconds and switches leave the report
 seconds_running : {c : Clock} {n : ℕ} {e : Event} → Seconds c n e → e.clock.running ≡ c.running
@@ -98,7 +99,7 @@ module _ (t : List ℕ) (sd : sound_b t ≡ true) (hb : Bytes t) (opcode : ℕ) 
         go false h = still refl (ap world_after (update_refused c t w o h)) r
 
     -- an answered Abort ends the report, a wrong one changes nothing
-    step_abort : (w o : List ℕ) {q : Request} → Right (opcode_in w) q → eqb (opcode_in w) 3 ≡ true → request_of w ≡ q
+    step_abort : (w o : List ℕ) {q : Result Request Code} → Right (opcode_in w) q → eqb (opcode_in w) 3 ≡ true → request_of w ≡ q
         → world_after (access_of c t w o) ≡ world (accessed_of c t (opcode_in w) q).clock t → done_b (access_of c t w o).reply.answer ≡ true
         → Step c k sent l (record_access w o)
     unfolding heard_by step_by calm_b answer_of opcode_b accessed_of aborted_of accessed

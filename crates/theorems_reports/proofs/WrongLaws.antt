@@ -8,13 +8,8 @@ use native.Mathlib.Omega.{arith}
 use Rattle.octets.proofs.Tests.{clash}
 use Rattle.filter.specs.declared.filter.Filter.TheVariants.{All}
 use Rattle.record_read.specs.Reading.{reading_number}
-use Rattle.record.specs.declared.kinds.Reading.{Reading}
 use Rattle.clock.specs.declared.state.Clock.{Clock}
-use Rattle.clock.specs.declared.state.Left.TheVariants.{Nothing, From}
 use Rattle.clock.specs.declared.state.Report.{Report}
-use Rattle.clock.specs.declared.state.Left.{Left}
-use Rattle.clock.specs.declared.state.Running.{Running}
-use Rattle.clock.specs.declared.state.Running.TheVariants.{Idle, Reporting}
 use Rattle.racp_notify.specs.Notify.{room_b, Said, said_of, noticed, running_notice, notify_of, segment_of}
 use Rattle.theorems_reports.specs.World.{world, Notifying}
 use Rattle.theorems_reports.specs.Hearing.{hearing_by}
@@ -23,17 +18,19 @@ use Rattle.theorems_reports.specs.Reports.{report_begun, asking_b, askings_b, Fi
 use Rattle.theorems_reports.specs.Cases.{table, reader, output, asks, result_by}
 use Rattle.theorems_reports.specs.Wrong.{way, said_by, notice_by, notify_by, right_way, rising, empty_cut, repeated_cut, early_cut, restarting, staying, again, ShutOut}
 use Rattle.theorems_reports.proofs.CaseLaws.{table_bytes_lem, table_accepted}
+use Rattle.record.specs.declared.kinds.Record.{Record}
+use Rattle.std.proofs.Common.{None, Option, Some}
 
 -- the right way is the right one
-right_said : (c : Clock) (t : List ℕ) (q : ℕ) (r : Report) (l : Left) → said_by right_way c t q r l ≡ said_of c t q r l
+right_said : (c : Clock) (t : List ℕ) (q : ℕ) (r : Report) (l : Option (ℕ × ℕ)) → said_by right_way c t q r l ≡ said_of c t q r l
 unfolding said_by said_of
-right_said c t q r Nothing = refl
-right_said c t q r (From number sent) = refl
+right_said c t q r None = refl
+right_said c t q r (Some (number, sent)) = refl
 
-right_notice : (c : Clock) (t : List ℕ) (p : ℕ) (o : List ℕ) (x : Running) → notice_by right_way c t p o x ≡ running_notice c t p o x
+right_notice : (c : Clock) (t : List ℕ) (p : ℕ) (o : List ℕ) (x : Option Report) → notice_by right_way c t p o x ≡ running_notice c t p o x
 unfolding notice_by running_notice
-right_notice c t p o Idle = refl
-right_notice c t p o (Reporting r) = ap (λ (s : Said). noticed s o) (right_said c t _ r r.left)
+right_notice c t p o None = refl
+right_notice c t p o (Some r) = ap (λ (s : Said). noticed s o) (right_said c t _ r r.left)
 
 right : (c : Clock) (t : List ℕ) (p : ℕ) (o : List ℕ) → notify_by right_way c t p o ≡ notify_of c t p o
 unfolding notify_by notify_of
@@ -44,7 +41,7 @@ unfolding askings_b asking_b room_b
 askings = refl
 
 -- the number of the first reading: 11 where its bytes are no record
-abbrev first_number : List Reading → ℕ
+abbrev first_number : List (Option Record) → ℕ
 first_number [] = 0
 first_number (r ∷ l) = reading_number r
 

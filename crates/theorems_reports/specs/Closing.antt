@@ -9,7 +9,6 @@ use Rattle.record.specs.declared.kinds.Record.{Record}
 use Rattle.table.specs.Table.{size_b}
 use Rattle.table_look.specs.Matching.{matching}
 use Rattle.clock.specs.Events.{seconds_of, switches_of, disconnect_of}
-use Rattle.clock.specs.declared.answers.Answer.{Answer}
 use Rattle.rows.specs.Reply.{done_b}
 use Rattle.update.specs.Fault.{fault_of}
 use Rattle.update.specs.TimeUpdate.{update_of}
@@ -18,6 +17,7 @@ use Rattle.racp_notify.specs.Notify.{bit, notify_of}
 use Rattle.theorems_reports.specs.World.{World, new_world, Call, seconds, switches, disconnect, fault, time_update, record_access, notify, step_of, run_of}
 use Rattle.theorems_reports.specs.Hearing.{Heard, nothing, segment, closing, heard_of, Hearing, hearing_of, undisturbed_b, calm_b}
 use Rattle.theorems_reports.specs.Reports.{Accepted, report_begun, asking_b, segments, Exact}
+use Rattle.clock.specs.Answers.{Answer}
 
 -- what answers a call
 unfoldable pub answer_of : World → Call → Answer

@@ -1,17 +1,17 @@
 -- Notifications fed in order to the tablet's joining: the records it then reads, and whether none was refused.
-use Rattle.std.specs.Prelude.{Bool, true, false, List, [], ◌∷◌, ℕ}
+use Rattle.std.specs.Prelude.{Bool, true, false, List, [], ◌∷◌, ℕ, Option}
 use Rattle.record_read.specs.Reading.{read_of}
-use Rattle.record.specs.declared.kinds.Reading.{Reading}
 use Rattle.joining.specs.Joining.{join_of, joined_in}
 use Rattle.joining.specs.declared.joining.Answer.{Answer}
 use Rattle.joining.specs.declared.joining.Answer.TheVariants.{More, Whole, Refused}
 use Rattle.joining.specs.declared.joining.Joining.{Joining}
+use Rattle.record.specs.declared.kinds.Record.{Record}
 
 pub record Got : Type 0 where
-  pub records : List Reading
+  pub records : List (Option Record)
   pub fine : Bool
 
-abbrev pub got : List Reading → Bool → Got
+abbrev pub got : List (Option Record) → Bool → Got
 got r f = record { records = r; fine = f }
 
 -- one notification's answer and the state after it, then the rest

@@ -1,22 +1,21 @@
 -- The theorems about reports (document 01, "RACP and notifications"): Heard report, Calm calls, and Finished report, for which a way of notifying is left open, so that wrong ways can be shown wrong.
-use Rattle.std.specs.Prelude.{◌≡◌, Bool, true, false, List, [], ◌∷◌, map, ℕ, ◌+◌, ◌-◌, ◌/◌, ◌≤◌, ◌<◌, leb, ltb, eqb, length, take}
+use Rattle.std.specs.Prelude.{◌≡◌, Bool, true, false, List, [], ◌∷◌, map, ℕ, ◌+◌, ◌-◌, ◌/◌, ◌≤◌, ◌<◌, leb, ltb, eqb, length, take, Ok, Some}
 use Rattle.octets.specs.Choice.{both, either}
 use Rattle.octets.specs.Numbers.{bytes2}
 use Rattle.octets.specs.Parts.{Bytes}
 use Rattle.filter.specs.declared.filter.Filter.{Filter}
 use Rattle.record_write.specs.Layout.{bytes_of}
 use Rattle.record.specs.declared.kinds.Record.{Record}
-use Rattle.record.specs.declared.kinds.Reading.TheVariants.{Is}
 use Rattle.table_look.specs.Matching.{matching}
 use Rattle.rows.specs.Reply.{done_b}
 use Rattle.racp_request.specs.Request.{opcode_in, request_of}
-use Rattle.racp_request.specs.declared.request.Request.TheVariants.{Report}
 use Rattle.racp_access.specs.Access.{access_of}
 use Rattle.racp_notify.specs.Notify.{room_b}
 use Rattle.joining.specs.Joining.{empty_joining}
 use Rattle.theorems_reports.specs.World.{World, Call, seconds, switches, disconnect, fault, time_update, record_access, notify, Notifying, world_after}
 use Rattle.theorems_reports.specs.Hearing.{Hearing, hearing_by, hearing_of, undisturbed_b, all_calm_b}
 use Rattle.theorems_reports.specs.Joined.{got, join_all}
+use Rattle.racp_request.specs.declared.request.Request.TheVariants.{Report}
 
 -- the bytes that answer a record access
 abbrev pub response_to : World → List ℕ → List ℕ → List ℕ
@@ -25,7 +24,7 @@ response_to v w o = let u = access_of v.clock v.table w o in take u.reply.len u.
 -- A report that was accepted: "An accepted 1 or 7 is a 0 without response bytes." That the table was sound and the clock obeyed its rules
 -- follows: rows 1 and 2 were passed.
 pub record Accepted (v : World) (w o : List ℕ) (f : Filter) : Type 0 where
-  pub asked : request_of w ≡ Report f
+  pub asked : request_of w ≡ Ok (Report f)
   pub done : done_b (access_of v.clock v.table w o).reply.answer ≡ true
   pub silent : response_to v w o ≡ []
 
@@ -36,7 +35,7 @@ report_begun v w o = world_after (access_of v.clock v.table w o)
 -- count of matching held records".
 pub record Finished (t w : List ℕ) (f : Filter) (h : Hearing) : Type 0 where
   pub opcode : either (eqb (opcode_in w) 1) (eqb (opcode_in w) 7) ≡ true
-  pub joined : join_all empty_joining h.notes ≡ got (map Is (matching f t)) true
+  pub joined : join_all empty_joining h.notes ≡ got (map Some (matching f t)) true
   pub closes_1 : opcode_in w ≡ 1 → h.response ≡ 6 ∷ 0 ∷ 1 ∷ 1 ∷ []
   pub closes_7 : opcode_in w ≡ 7 → h.response ≡ 8 ∷ 0 ∷ bytes2 (length (matching f t))
 

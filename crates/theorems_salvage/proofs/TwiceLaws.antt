@@ -6,6 +6,7 @@ use mathlib.Core.List.{List, []}
 use Prim.Native.Nat.{ℕ, ◌+◌, ◌≤◌}
 use native.Mathlib.Omega.{arith}
 use borrow.Author.Tests.{eqb-false}
+use Rattle.std.proofs.Common.{Ok, Err}
 use lib.Dec.{leb}
 use lib.ListN.{length, take, drop}
 use lib.Seq.{take_at}
@@ -17,7 +18,7 @@ use Rattle.salvage_run.specs.Runs.{in_order, run_of}
 use Rattle.salvage_table.specs.Salvaged.{salvaged_table}
 use Rattle.salvage_report.specs.Report.{report_of}
 use Rattle.salvage_call.specs.Salvage.{salvaged, given, none_b, salvage_of}
-use Rattle.salvage_call.specs.declared.salvage.Salvaged.TheVariants.{Done, DoesNotFit, SizeImpossible, NoRecord}
+use Rattle.salvage_call.specs.declared.salvage.SalvageError.TheVariants.{DoesNotFit, SizeImpossible, NoRecord}
 use Rattle.salvage_call.proofs.SalvageLaws.{none_run, is_sound, length_salvaged}
 use Rattle.theorems_salvage.specs.Result.{Twice}
 use Rattle.theorems_salvage.proofs.TableLaws.{comes_back}
@@ -27,18 +28,18 @@ front : (table new : List ℕ) (n : ℕ) → length new ≡ n → take n (over t
 unfolding over
 front table new n e = take_at new (drop (0 + length new) table) n e
 
-given_table : (new told table report : List ℕ) (n k : ℕ) → length new ≡ k → (given new told table report).answer ≡ Done n
+given_table : (new told table report : List ℕ) (n k : ℕ) → length new ≡ k → (given new told table report).answer ≡ Ok n
     → take k (given new told table report).table ≡ new
 unfolding given
 given_table new told table report n k e = go (both (leb (length new) (length table)) (leb (length told) (length report)))
   where
     go : (b : Bool)
-        → (pick b (salvaged (Done (length told)) (over table 0 new) (over report 0 told)) (salvaged DoesNotFit table report)).answer ≡ Done n
-        → take k (pick b (salvaged (Done (length told)) (over table 0 new) (over report 0 told)) (salvaged DoesNotFit table report)).table ≡ new
+        → (pick b (salvaged (Ok (length told)) (over table 0 new) (over report 0 told)) (salvaged (Err DoesNotFit) table report)).answer ≡ Ok n
+        → take k (pick b (salvaged (Ok (length told)) (over table 0 new) (over report 0 told)) (salvaged (Err DoesNotFit) table report)).table ≡ new
     go true h = front table new k e
     go false h = let o : ◌≡◌ {A = ℕ} 0 1 = cc in absurd (omega arith)
 
-back_sound : (t table report : List ℕ) (n : ℕ) → Bytes t → (salvage_of t table report).answer ≡ Done n
+back_sound : (t table report : List ℕ) (n : ℕ) → Bytes t → (salvage_of t table report).answer ≡ Ok n
     → sound_b (take (length t) (salvage_of t table report).table) ≡ true
 unfolding salvage_of
 back_sound t table report n b = go (size_b (length t)) refl (sound_b t) refl (none_b (in_order t)) refl
@@ -50,8 +51,8 @@ back_sound t table report n b = go (size_b (length t)) refl (sound_b t) refl (no
         one m h = omega arith
 
     go : (z : Bool) → size_b (length t) ≡ z → (s : Bool) → sound_b t ≡ s → (m : Bool) → none_b (in_order t) ≡ m
-        → let out = pick z (pick s (given t [] table report) (pick m (salvaged NoRecord table report) (given (salvaged_table t) (report_of t) table report))) (salvaged SizeImpossible table report) in
-        out.answer ≡ Done n → sound_b (take (length t) out.table) ≡ true
+        → let out = pick z (pick s (given t [] table report) (pick m (salvaged (Err NoRecord) table report) (given (salvaged_table t) (report_of t) table report))) (salvaged (Err SizeImpossible) table report) in
+        out.answer ≡ Ok n → sound_b (take (length t) out.table) ≡ true
     go true p true q m r e = ap sound_b (given_table t [] table report n (length t) refl e) ∙ q
     go true p false q true r e = let o : ◌≡◌ {A = ℕ} 0 1 = cc in absurd (omega arith)
     go true p false q false r e =

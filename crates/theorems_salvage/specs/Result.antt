@@ -1,12 +1,11 @@
 -- What a driver may take from salvage (docs/RULES.md, "Salvage"): the table that comes back is sound, its records are the run's, unaltered and in the
 -- order of reading; and salvaging it again changes nothing.
-use Rattle.std.specs.Prelude.{◌≡◌, true, List, map, ℕ, ◌≤◌, length, take}
+use Rattle.std.specs.Prelude.{◌≡◌, true, List, map, ℕ, ◌≤◌, length, take, Ok}
 use Rattle.octets.specs.Parts.{over, Bytes}
 use Rattle.table.specs.Table.{size_b, sound_b, count, next, ring, held, bytes_in, record_in}
 use Rattle.salvage_run.specs.Runs.{run_of, kept_slots}
 use Rattle.salvage_table.specs.Salvaged.{next_after, salvaged_table}
 use Rattle.salvage_call.specs.Salvage.{salvaged, salvage_of}
-use Rattle.salvage_call.specs.declared.salvage.Salvaged.TheVariants.{Done}
 
 -- a table of a permitted size in which a slot counts
 pub record Holds (t : List ℕ) : Type 0 where
@@ -30,6 +29,6 @@ ComesBack = (t : List ℕ) → Holds t → Comes t
 
 -- Whatever a call that was done wrote as a table comes back from a second one as it is, with an empty report.
 abbrev pub Twice : Type 0
-Twice = (t table report : List ℕ) (n : ℕ) → Bytes t → (salvage_of t table report).answer ≡ Done n
+Twice = (t table report : List ℕ) (n : ℕ) → Bytes t → (salvage_of t table report).answer ≡ Ok n
     → let back = take (length t) (salvage_of t table report).table in
-    (second told : List ℕ) → length back ≤ length second → salvage_of back second told ≡ salvaged (Done 0) (over second 0 back) told
+    (second told : List ℕ) → length back ≤ length second → salvage_of back second told ≡ salvaged (Ok 0) (over second 0 back) told

@@ -9,22 +9,23 @@ use lib.Dec.{eqb}
 use lib.IntN.{ℤ, pos, ◌+ℤ◌, ◌-ℤ◌, +ℤ_comm, +ℤ-neg_ℤ_cancel, -ℤ-+ℤ_cancel}
 use Rattle.octets.proofs.Tests.{clash}
 use Rattle.carry.specs.Stamp.{carrying_number, no_fault_b}
-use Rattle.carry.specs.declared.stamp.Carried.{Carried}
-use Rattle.carry.specs.declared.stamp.Carried.TheVariants.{To, TableNotSound, NotHeld, FaultAmong}
 use Rattle.theorems_reports.specs.World.{World, Call}
 use Rattle.theorems_stamps.specs.Stamps.{logged_of, Carrying, carried_after, all_held_b, Carries}
 use Rattle.theorems_stamps.specs.Wrong.{OneCarrying}
+use Rattle.carry.specs.declared.stamp.CarryError.{CarryError}
+use Rattle.carry.specs.declared.stamp.CarryError.TheVariants.{FaultAmong, NotHeld, TableNotSound}
+use Rattle.std.proofs.Common.{Err, Ok, Result}
 
 -- an answer of 0 carries a stamp
-pub data Answered : Carried → Type 0 where
-  to : (z : ℤ) → Answered (To z)
+pub data Answered : Result ℤ CarryError → Type 0 where
+  to : (z : ℤ) → Answered (Ok z)
 
-pub answered : (x : Carried) → eqb (carrying_number x) 0 ≡ true → Answered x
+pub answered : (x : Result ℤ CarryError) → eqb (carrying_number x) 0 ≡ true → Answered x
 unfolding carrying_number
-answered (To z) h = to z
-answered TableNotSound h = absurd (clash false h refl)
-answered NotHeld h = absurd (clash false h refl)
-answered FaultAmong h = absurd (clash false h refl)
+answered (Ok z) h = to z
+answered (Err TableNotSound) h = absurd (clash false h refl)
+answered (Err NotHeld) h = absurd (clash false h refl)
+answered (Err FaultAmong) h = absurd (clash false h refl)
 
 -- a - x = d = a - y
 cancel : (a d x y : ℤ) → a -ℤ x ≡ d → a -ℤ y ≡ d → x ≡ y
@@ -34,9 +35,9 @@ cancel a d x y p q = sym (back x p) ∙ back y q
     back z e =
         ap (λ (b : ℤ). b -ℤ d) (sym (-ℤ-+ℤ_cancel a z) ∙ ap (λ (b : ℤ). b +ℤ z) e ∙ +ℤ_comm d z) ∙ +ℤ-neg_ℤ_cancel z d
 
-pub same_answer : (c r : ℕ) (x y : Carried) → Answered x → Answered y → ((z : ℤ) → x ≡ To z → pos c -ℤ z ≡ pos r)
-    → ((z : ℤ) → y ≡ To z → pos c -ℤ z ≡ pos r) → x ≡ y
-same_answer c r x y (to z) (to w) h k = ap To (cancel (pos c) (pos r) z w (h z refl) (k w refl))
+pub same_answer : (c r : ℕ) (x y : Result ℤ CarryError) → Answered x → Answered y → ((z : ℤ) → x ≡ Ok z → pos c -ℤ z ≡ pos r)
+    → ((z : ℤ) → y ≡ Ok z → pos c -ℤ z ≡ pos r) → x ≡ y
+same_answer c r x y (to z) (to w) h k = ap Ok (cancel (pos c) (pos r) z w (h z refl) (k w refl))
 
 one : (a b : Carrying) (v : World) (after : List Call) → Carries a v after → Carries b v after → carried_after a v after ≡ carried_after b v after
 one a b v after x y = go (all_held_b v after) (no_fault_b (logged_of v after)) refl refl

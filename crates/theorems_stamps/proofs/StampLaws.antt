@@ -20,7 +20,6 @@ use Rattle.table.proofs.HeadLaws.{sound_head}
 use Rattle.table_write.proofs.HistoryLaws.{length_held}
 use Rattle.theorems_reports.proofs.GoodLaws.{new_table, new_good}
 use Rattle.carry.specs.Stamp.{later_of, moved_by, carried_over, carried_from, carry_of, carrying_number, no_fault_b}
-use Rattle.carry.specs.declared.stamp.Carried.TheVariants.{To, NotHeld, FaultAmong}
 use Rattle.theorems_reports.specs.World.{World, new_world, Call, run_of}
 use Rattle.theorems_reports.specs.Reach.{Good}
 use Rattle.theorems_stamps.specs.Stamps.{ran_of, logged_of, carried_after, same_records_b, all_held_b, HoldsLogged, Carries, CarriedStamp}
@@ -28,6 +27,9 @@ use Rattle.theorems_stamps.proofs.Differences.{diff_add, diff_is}
 use Rattle.theorems_reports.proofs.ReachLaws.{reachable}
 use Rattle.theorems_stamps.proofs.SameLaws.{same_records, same_itself, other_length}
 use Rattle.theorems_stamps.proofs.WentLaws.{news, olds, Went, went_run}
+use Rattle.carry.specs.declared.stamp.CarryError.{CarryError}
+use Rattle.carry.specs.declared.stamp.CarryError.TheVariants.{FaultAmong, NotHeld}
+use Rattle.std.proofs.Common.{Result, Err, Ok}
 
 -- the newest of a list: all of it, and of the newest ones those that came last
 newest_all : (n : ℕ) (l : List Record) → length l ≤ n → l ≡ newest n l
@@ -49,7 +51,7 @@ later_is q k n hq hk e = ap (λ (x : ℕ). (x + 65536 - q) % 65536) e ∙ go q k
 
 -- the sum over records without a fault, and with one
 over_sums : (l : List Record) (a b : ℕ) → no_fault_b l ≡ true
-    → carried_over (pos a -ℤ pos b) l ≡ To (pos (a + news l) -ℤ pos (b + olds l))
+    → carried_over (pos a -ℤ pos b) l ≡ Ok (pos (a + news l) -ℤ pos (b + olds l))
 unfolding carried_over moved_by no_fault_b news olds
 over_sums [] a b h =
     let x : a + 0 ≡ a = omega arith in
@@ -60,11 +62,11 @@ over_sums (TimeUpdate u ∷ l) a b h =
     let y : b + u.oldbase + olds l ≡ b + (u.oldbase + olds l) = omega arith in
     ap (λ (z : ℤ). carried_over z l) (diff_add a b u.base u.oldbase)
     ∙ over_sums l (a + u.base) (b + u.oldbase) h
-    ∙ ap (λ (k : ℕ). To (pos k -ℤ pos (b + u.oldbase + olds l))) x
-    ∙ ap (λ (k : ℕ). To (pos (a + (u.base + news l)) -ℤ pos k)) y
+    ∙ ap (λ (k : ℕ). Ok (pos k -ℤ pos (b + u.oldbase + olds l))) x
+    ∙ ap (λ (k : ℕ). Ok (pos (a + (u.base + news l)) -ℤ pos k)) y
 over_sums (TimeFault f ∷ l) a b h = absurd (clash false h refl)
 
-over_fault : (l : List Record) (z : ℤ) → no_fault_b l ≡ false → carried_over z l ≡ FaultAmong
+over_fault : (l : List Record) (z : ℤ) → no_fault_b l ≡ false → carried_over z l ≡ Err FaultAmong
 unfolding carried_over no_fault_b
 over_fault [] z h = absurd (clash true refl h)
 over_fault (TimeUpdate u ∷ l) z h = over_fault l _ h
@@ -117,35 +119,35 @@ module _ (v w : World) (l : List Record) (n : ℕ) (g : Good v) (d : Went v w l 
 module _ (v w : World) (l : List Record) (n : ℕ) (g : Good v) (d : Went v w l n) (few : length l < 65536) where
   -- the ring and the numbers are gone
   carry_is : (stamp : ℕ) → carry_of stamp (next v.table) w.table
-      ≡ pick (leb (length l) (length (held w.table))) (carried_over (pos stamp) l) NotHeld
+      ≡ pick (leb (length l) (length (held w.table))) (carried_over (pos stamp) l) (Err NotHeld)
   unfolding carry_of carried_from
   carry_is stamp =
       rw (d.good.sound, later_is (next v.table) (length l) (next w.table) g.next few d.number)
       (go (leb (length l) (length (held w.table))) refl)
     where
       go : (b : Bool) → leb (length l) (length (held w.table)) ≡ b
-          → pick b (carried_over (pos stamp) (newest (length l) (held w.table))) NotHeld ≡ pick b (carried_over (pos stamp) l) NotHeld
+          → pick b (carried_over (pos stamp) (newest (length l) (held w.table))) (Err NotHeld) ≡ pick b (carried_over (pos stamp) l) (Err NotHeld)
       go true e = ap (carried_over (pos stamp)) (are_logged v w l n g d (leb-true _ _ e))
       go false e = refl
 
   -- the three answers of carrying
-  is_not_held : (stamp : ℕ) → leb (length l) (length (held w.table)) ≡ false → carry_of stamp (next v.table) w.table ≡ NotHeld
+  is_not_held : (stamp : ℕ) → leb (length l) (length (held w.table)) ≡ false → carry_of stamp (next v.table) w.table ≡ Err NotHeld
   is_not_held stamp h = rw (carry_is stamp, h)
 
   is_fault : (stamp : ℕ) → leb (length l) (length (held w.table)) ≡ true → no_fault_b l ≡ false
-      → carry_of stamp (next v.table) w.table ≡ FaultAmong
+      → carry_of stamp (next v.table) w.table ≡ Err FaultAmong
   is_fault stamp h k = rw (carry_is stamp, h) (over_fault l (pos stamp) k)
 
   is_sum : leb (length l) (length (held w.table)) ≡ true → no_fault_b l ≡ true
-      → carry_of v.clock.time.base (next v.table) w.table ≡ To (pos (v.clock.time.base + news l) -ℤ pos (olds l))
+      → carry_of v.clock.time.base (next v.table) w.table ≡ Ok (pos (v.clock.time.base + news l) -ℤ pos (olds l))
   is_sum h k =
       let x : 0 + olds l ≡ olds l = omega arith in
       rw (carry_is v.clock.time.base, h)
       (ap (λ (z : ℤ). carried_over z l) (sym (+ℤ_idr (pos v.clock.time.base)))
       ∙ over_sums l v.clock.time.base 0 k
-      ∙ ap (λ (m : ℕ). To (pos (v.clock.time.base + news l) -ℤ pos m)) x)
+      ∙ ap (λ (m : ℕ). Ok (pos (v.clock.time.base + news l) -ℤ pos m)) x)
 
-to_is : (x z : ℤ) → To x ≡ To z → x ≡ z
+to_is : (x z : ℤ) → ◌≡◌ {A = Result ℤ CarryError} (Ok x) (Ok z) → x ≡ z
 to_is x z h = cc
 
 pub by_counts : (v : World) (after : List Call) → Good v
@@ -169,12 +171,12 @@ carries v after g few =
     let l = logged_of v after in
     let d = went_run after v g in
     let c = sym (by_counts v after g) in
-    let not_held : all_held_b v after ≡ false → carried_after carry_of v after ≡ NotHeld =
+    let not_held : all_held_b v after ≡ false → carried_after carry_of v after ≡ (Err NotHeld) =
     λ h. is_not_held v w l (ran_of v after) g d few v.clock.time.base (c ∙ h) in
-    let fault : all_held_b v after ≡ true → no_fault_b l ≡ false → carried_after carry_of v after ≡ FaultAmong =
+    let fault : all_held_b v after ≡ true → no_fault_b l ≡ false → carried_after carry_of v after ≡ (Err FaultAmong) =
     λ h. is_fault v w l (ran_of v after) g d few v.clock.time.base (c ∙ h) in
     let sum : all_held_b v after ≡ true → no_fault_b l ≡ true
-    → carried_after carry_of v after ≡ To (pos (v.clock.time.base + news l) -ℤ pos (olds l)) =
+    → carried_after carry_of v after ≡ Ok (pos (v.clock.time.base + news l) -ℤ pos (olds l)) =
     λ h. is_sum v w l (ran_of v after) g d few (c ∙ h) in
     record {
       exactly = by_tests (all_held_b v after) (no_fault_b l) (λ h. simp (not_held h, h)) (λ h k. simp (fault h k, h, k)) (λ h k. simp (sum h k, h, k));

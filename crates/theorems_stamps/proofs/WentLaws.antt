@@ -18,8 +18,7 @@ use Rattle.table_write.proofs.AppendLaws.{next_appended, capacity_appended}
 use Rattle.table.proofs.HeadLaws.{sound_head}
 use Rattle.table_write.proofs.HistoryLaws.{newest_appended}
 use Rattle.clock.specs.Answers.{number_of}
-use Rattle.clock.specs.Events.{with_base, disconnected}
-use Rattle.clock.specs.declared.events.Event.{Event}
+use Rattle.clock.specs.Events.{with_base, disconnected, Event}
 use Rattle.clock.specs.declared.state.Clock.{Clock}
 use Rattle.clock.proofs.EventLaws.{Seconds, refuses_2, refuses_7, rises, Changed, changes, seconds_is, switches_is, disconnect_is}
 use Rattle.update_decide.specs.Accept.{accepted_of, update_record}

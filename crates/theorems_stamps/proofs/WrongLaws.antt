@@ -21,8 +21,6 @@ use Rattle.update.proofs.FaultLaws.{fault_done}
 use Rattle.theorems_reports.proofs.GoodLaws.{new_table, new_good}
 use Rattle.rows.proofs.RowLaws.{table_0}
 use Rattle.carry.specs.Stamp.{later_of, carried_over, carried_from, carry_of, carrying_number, no_fault_b}
-use Rattle.carry.specs.declared.stamp.Carried.{Carried}
-use Rattle.carry.specs.declared.stamp.Carried.TheVariants.{To, TableNotSound, NotHeld, FaultAmong}
 use Rattle.theorems_reports.specs.World.{World, new_world, Call, seconds, fault, step_of, run_of}
 use Rattle.theorems_reports.specs.Reach.{Good}
 use Rattle.theorems_stamps.specs.Stamps.{logged_in, logged_of, Carrying, carried_after, all_held_b, Carries, CarriedBelow, CarriedStamp}
@@ -34,6 +32,9 @@ use Rattle.theorems_reports.proofs.ReachLaws.{reachable, call_good, calls_good}
 use Rattle.theorems_stamps.proofs.StampLaws.{carried_stamp}
 use Rattle.theorems_stamps.proofs.WentLaws.{went_run}
 use Rattle.theorems_stamps.proofs.WriteLaws.{writable}
+use Rattle.carry.specs.declared.stamp.CarryError.{CarryError}
+use Rattle.carry.specs.declared.stamp.CarryError.TheVariants.{FaultAmong, NotHeld, TableNotSound}
+use Rattle.std.proofs.Common.{Err, Ok, Result}
 
 by_parts : (stamp q : ℕ) (t : List ℕ) → carry_by later_of newest carried_over stamp q t ≡ carry_of stamp q t
 unfolding carry_by carry_of carried_from
@@ -47,34 +48,34 @@ abbrev since : List Call
 since = seconds 50 ∷ set writable 800000070 ∷ seconds 40 ∷ []
 
 -- in it every way that keeps the theorem carries 800,000,050 to 800,000,020
-six : (carry : Carrying) → CarriedStamp carry → carried_after carry reached since ≡ To (pos 800000020)
+six : (carry : Carrying) → CarriedStamp carry → carried_after carry reached since ≡ Ok (pos 800000020)
 unfolding result_of
 six carry h =
     let few : 1 < 65536 = omega arith in
     one_carrying carry carry_of h carried_stamp (buffer 144) (on ∷ set writable 800000000 ∷ seconds 50 ∷ []) since refl few
 
-abbrev amount : Carried → ℕ
-amount (To (pos n)) = n
-amount (To (negsuc n)) = 0
-amount TableNotSound = 0
-amount NotHeld = 0
-amount FaultAmong = 0
+abbrev amount : Result ℤ CarryError → ℕ
+amount (Ok (pos n)) = n
+amount (Ok (negsuc n)) = 0
+amount (Err TableNotSound) = 0
+amount (Err NotHeld) = 0
+amount (Err FaultAmong) = 0
 
 shut : (carry : Carrying) → eqb (amount (carried_after carry reached since)) 800000020 ≡ false → CarriedStamp carry → ⊥
 shut carry differs h =
-    clash (eqb (amount (carried_after carry reached since)) 800000020) (ap (λ (x : Carried). eqb (amount x) 800000020) (six carry h)) differs
+    clash (eqb (amount (carried_after carry reached since)) 800000020) (ap (λ (x : Result ℤ CarryError). eqb (amount x) 800000020) (six carry h)) differs
 
-unchanged_out : (carry : Carrying) → ((stamp q : ℕ) (t : List ℕ) (z : ℤ) → carry stamp q t ≡ To z → z ≡ pos stamp) → CarriedStamp carry → ⊥
+unchanged_out : (carry : Carrying) → ((stamp q : ℕ) (t : List ℕ) (z : ℤ) → carry stamp q t ≡ Ok z → z ≡ pos stamp) → CarriedStamp carry → ⊥
 unfolding result_of
 unchanged_out carry same h =
     let e : pos 800000020 ≡ pos 800000050 = same _ _ _ _ (six carry h) in
-    let n : ◌≡◌ {A = ℕ} 800000020 800000050 = ap (λ (z : ℤ). amount (To z)) e in
+    let n : ◌≡◌ {A = ℕ} 800000020 800000050 = ap (λ (z : ℤ). amount (Ok z)) e in
     omega arith
 
 refusing_out : (carry : Carrying) → ((stamp q : ℕ) (t : List ℕ) → eqb (carrying_number (carry stamp q t)) 0 ≡ false) → CarriedStamp carry → ⊥
 unfolding carrying_number
 refusing_out carry refuses h =
-    clash (eqb (carrying_number (carried_after carry reached since)) 0) (ap (λ (x : Carried). eqb (carrying_number x) 0) (six carry h)) (refuses _ _ _)
+    clash (eqb (carrying_number (carried_after carry reached since)) 0) (ap (λ (x : Result ℤ CarryError). eqb (carrying_number x) 0) (six carry h)) (refuses _ _ _)
 
 unreduced_out : CarriedStamp wrong.unreduced → ⊥
 unfolding result_of carry_by
@@ -184,7 +185,7 @@ loose n bound t h e b k =
     let few : length (logged_of v (faults (suc n))) < bound = omega (arith, logs_all (suc n) v g) in
     let z = whole_round (next v.table) (next (run_of v (faults (suc n))).table) (suc n) (new_table t h).next (next_after_lem (suc n) v g) e in
     clash (eqb (carrying_number (carried_after carry_of v (faults (suc n)))) 0)
-    (ap (λ (x : Carried). eqb (carrying_number x) 0) (sym (by_parts _ _ _))
+    (ap (λ (x : Result ℤ CarryError). eqb (carrying_number x) 0) (sym (by_parts _ _ _))
     ∙ carries_none later_of v (run_of v (faults (suc n))) (calls_good (faults (suc n)) v g) z)
     (refuses_fault carry_of v (faults (suc n)) (k t [] (faults (suc n)) h few) (fault_among n v g))
 

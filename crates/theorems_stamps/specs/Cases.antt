@@ -1,25 +1,25 @@
 -- Computed cases of the theorem Carried stamp: its premises can hold, and what it says is then no empty word.
-use Rattle.std.specs.Prelude.{◌≡◌, Bool, true, false, List, [], ◌∷◌, ◌++◌, ℕ, pos, negsuc, length, replicate}
+use Rattle.std.specs.Prelude.{◌≡◌, Bool, true, false, List, [], ◌∷◌, ◌++◌, ℕ, pos, negsuc, length, replicate, Err, Ok, Result, ℤ}
 use Rattle.octets.specs.Numbers.{bytes4}
 use Rattle.octets.specs.Parts.{Bytes, same_b}
 use Rattle.record_write.specs.Layout.{update_values, fault_values}
 use Rattle.table.specs.Table.{next}
 use Rattle.carry.specs.Stamp.{later_of, carried_over, carried_from, carry_of, no_fault_b, moved_by}
-use Rattle.carry.specs.declared.stamp.Carried.{Carried}
-use Rattle.carry.specs.declared.stamp.Carried.TheVariants.{To, NotHeld, FaultAmong}
 use Rattle.theorems_reports.specs.World.{new_world, Call, seconds, switches, fault, time_update, record_access, notify, run_of}
 use Rattle.theorems_reports.specs.Open.{calls_open}
 use Rattle.theorems_stamps.specs.Stamps.{ran_in, ran_of, logged_in, logged_of, carried_after, values_of, same_records_b, all_held_b}
+use Rattle.carry.specs.declared.stamp.CarryError.{CarryError}
+use Rattle.carry.specs.declared.stamp.CarryError.TheVariants.{FaultAmong, NotHeld}
 
 -- the stamp and its number, how many records came after it, the theorem's two tests, what carrying gives; the clock then, and the seconds
 -- that ran
-pub record Result : Type 0 where
+pub record Outcome : Type 0 where
   pub stamp : ℕ
   pub number : ℕ
   pub later : ℕ
   pub all_held : Bool
   pub no_fault : Bool
-  pub carried : Carried
+  pub carried : Result ℤ CarryError
   pub clock : ℕ
   pub ran : ℕ
 
@@ -30,7 +30,7 @@ buffer e = replicate e 0xaa
 abbrev pub output : List ℕ
 output = replicate 244 0
 
-unfoldable pub result_of : List ℕ → List Call → List Call → Result
+unfoldable pub result_of : List ℕ → List Call → List Call → Outcome
 unfolding calls_open later_of moved_by carried_over carried_from carry_of run_of ran_in ran_of logged_in logged_of no_fault_b same_b update_values fault_values values_of same_records_b all_held_b
 result_of t before after =
     let v = run_of (new_world t) before in
@@ -69,7 +69,7 @@ Case6 h = result_of (buffer 144) (on ∷ set h 800000000 ∷ seconds 50 ∷ [])
       later = 1;
       all_held = true;
       no_fault = true;
-      carried = To (pos 800000020);
+      carried = Ok (pos 800000020);
       clock = 800000110;
       ran = 90;
     }
@@ -86,7 +86,7 @@ SetBack h = result_of (buffer 208) (on ∷ set h 800000000 ∷ [])
       later = 3;
       all_held = true;
       no_fault = true;
-      carried = To (negsuc 1368848004);
+      carried = Ok (negsuc 1368848004);
       clock = 631152007;
       ran = 2000000012;
     }
@@ -100,7 +100,7 @@ Faulted h = result_of (buffer 208) (on ∷ fault output ∷ set h 800000000 ∷ 
       later = 2;
       all_held = true;
       no_fault = false;
-      carried = FaultAmong;
+      carried = Err FaultAmong;
       clock = 800000100;
       ran = 3;
     }
@@ -113,7 +113,7 @@ FaultBefore h = result_of (buffer 208) (on ∷ fault output ∷ []) (seconds 3 �
       later = 1;
       all_held = true;
       no_fault = true;
-      carried = To (pos 799999997);
+      carried = Ok (pos 799999997);
       clock = 800000000;
       ran = 3;
     }
@@ -127,7 +127,7 @@ Overwritten h = result_of (buffer 80) (on ∷ []) (set h 800000000 ∷ seconds 1
       later = 2;
       all_held = false;
       no_fault = true;
-      carried = NotHeld;
+      carried = Err NotHeld;
       clock = 800000000;
       ran = 1;
     }

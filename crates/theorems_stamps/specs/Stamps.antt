@@ -1,6 +1,6 @@
 -- The theorem Carried stamp (document 01, "Carrying a stamp"): the seconds that ran and the records logged in a history of calls, what the
 -- log holds of them, and what carrying then answers. The way of carrying is left open, so that wrong ways can be shown wrong.
-use Rattle.std.specs.Prelude.{◌≡◌, Bool, true, false, List, [], ◌∷◌, ◌++◌, ℕ, ◌+◌, ◌%◌, ◌<◌, leb, eqb, ℤ, pos, ◌-ℤ◌, length}
+use Rattle.std.specs.Prelude.{◌≡◌, Bool, true, false, List, [], ◌∷◌, ◌++◌, ℕ, ◌+◌, ◌%◌, ◌<◌, leb, eqb, ℤ, pos, ◌-ℤ◌, length, Err, Ok, Result}
 use Rattle.octets.specs.Choice.{both, pick}
 use Rattle.octets.specs.Parts.{same_b}
 use Rattle.record_write.specs.Layout.{update_values, fault_values}
@@ -16,9 +16,9 @@ use Rattle.rows.specs.Reply.{done_b}
 use Rattle.update_logged.specs.Theorems.{success_b}
 use Rattle.update.specs.TimeUpdate.{update_of}
 use Rattle.carry.specs.Stamp.{carrying_number, no_fault_b}
-use Rattle.carry.specs.declared.stamp.Carried.{Carried}
-use Rattle.carry.specs.declared.stamp.Carried.TheVariants.{To, NotHeld, FaultAmong}
 use Rattle.theorems_reports.specs.World.{World, new_world, Call, seconds, switches, disconnect, fault, time_update, record_access, notify, step_of, run_of}
+use Rattle.carry.specs.declared.stamp.CarryError.{CarryError}
+use Rattle.carry.specs.declared.stamp.CarryError.TheVariants.{FaultAmong, NotHeld}
 
 -- "The seconds that ran are those of events answered 0."
 unfoldable pub ran_in : World → Call → ℕ
@@ -53,11 +53,11 @@ logged_of v (k ∷ ks) = logged_in v k ++ logged_of (step_of v k) ks
 
 -- how a stamp is carried, from the stamp, its next number and a table: `carry_of`, or a wrong way
 abbrev pub Carrying : Type 0
-Carrying = ℕ → ℕ → List ℕ → Carried
+Carrying = ℕ → ℕ → List ℕ → Result ℤ CarryError
 
 -- In the world v "note the clock's time as a stamp with the log's next number", let the calls `after` come, "copy clock and log": what
 -- carrying the stamp over the copied log gives.
-abbrev pub carried_after : Carrying → World → List Call → Carried
+abbrev pub carried_after : Carrying → World → List Call → Result ℤ CarryError
 carried_after carry v after = carry v.clock.time.base (next v.table) (run_of v after).table
 
 -- a record's type and fields, in the order of the paper
@@ -99,10 +99,10 @@ pub record Carries (carry : Carrying) (v : World) (after : List Call) : Type 0 w
   -- "Carrying the stamp answers exactly when all later records are held and no time fault is among them"
   pub exactly : eqb (carrying_number (carried_after carry v after)) 0 ≡ both (all_held_b v after) (no_fault_b (logged_of v after))
   -- "and clock minus carried stamp is then the seconds that ran, however often the time was set"
-  pub difference : (z : ℤ) → carried_after carry v after ≡ To z → pos (run_of v after).clock.time.base -ℤ z ≡ pos (ran_of v after)
+  pub difference : (z : ℤ) → carried_after carry v after ≡ Ok z → pos (run_of v after).clock.time.base -ℤ z ≡ pos (ran_of v after)
   -- "If m exceeds H, 12", first; "a Time_Fault gives 13"
-  pub not_held : all_held_b v after ≡ false → carried_after carry v after ≡ NotHeld
-  pub fault : all_held_b v after ≡ true → no_fault_b (logged_of v after) ≡ false → carried_after carry v after ≡ FaultAmong
+  pub not_held : all_held_b v after ≡ false → carried_after carry v after ≡ Err NotHeld
+  pub fault : all_held_b v after ≡ true → no_fault_b (logged_of v after) ≡ false → carried_after carry v after ≡ Err FaultAmong
 
 -- of fewer than n later records
 abbrev pub CarriedBelow : ℕ → Carrying → Type 0

@@ -9,10 +9,7 @@ use lib.Dec.{leb}
 use lib.ListN.{length}
 use Rattle.octets.specs.Numbers.{at}
 use Rattle.clock.specs.Obeys.{clock_b}
-use Rattle.clock.specs.declared.answers.Answer.{Answer}
 use Rattle.clock.specs.declared.state.Clock.{Clock}
-use Rattle.clock.specs.declared.state.Running.{Running}
-use Rattle.clock.specs.declared.state.Running.TheVariants.{Idle, Reporting}
 use Rattle.update_decide.specs.Decide.{decide_of}
 use Rattle.rows.specs.Reply.{Outcome, done_b, answered}
 use Rattle.rows.specs.Rows.{first_failed, table_rows}
@@ -21,14 +18,17 @@ use Rattle.update.specs.Fault.{ending_of, fault_of}
 use Rattle.update.specs.TimeUpdate.{update_rows, effect_of, update_of}
 use Rattle.update.proofs.FaultLaws.{fault_refused, fault_done}
 use Rattle.update.proofs.UpdateLaws.{update_refused, update_done, response_short}
+use Rattle.clock.specs.declared.state.Report.{Report}
+use Rattle.std.proofs.Common.{None, Option, Some}
+use Rattle.clock.specs.Answers.{Answer}
 
 abbrev answer_of : Outcome → Answer
 answer_of u = u.reply.answer
 
-ending_short : (r : Running) → length (ending_of r) ≤ 255
+ending_short : (r : Option Report) → length (ending_of r) ≤ 255
 unfolding ending_of
-ending_short Idle = omega arith
-ending_short (Reporting r) = omega arith
+ending_short None = omega arith
+ending_short (Some r) = omega arith
 
 module _ (c : Clock) (t o : List ℕ) where
   fault_short : (fault_of c t o).reply.len ≤ 255

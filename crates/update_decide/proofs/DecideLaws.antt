@@ -16,11 +16,12 @@ use Rattle.update_judge.specs.Grounds.{grounds_of}
 use Rattle.codes.specs.Dtcp.{propose_opcode, force_opcode}
 use Rattle.update_decide.specs.Decide.{judged, update_operand, decide_of, TakenFrom}
 use Rattle.update_judge.specs.declared.proposal.Proposal.{Proposal}
-use Rattle.update_decide.specs.declared.decide.Decision.TheVariants.{Unsupported, WrongLength, Rejected, Taken}
 use Rattle.update_judge.proofs.GroundLaws.{grounds_none}
+use Rattle.std.proofs.Common.{Err, Ok}
+use Rattle.update_decide.specs.declared.decide.NotTaken.TheVariants.{Rejected, Unsupported, WrongLength}
 
 module _ (c : Clock) (w : List ℕ) (forced : Bool) where
-  pub operand_short : (length w ≡ update_write_bytes → ⊥) → update_operand c w forced ≡ WrongLength
+  pub operand_short : (length w ≡ update_write_bytes → ⊥) → update_operand c w forced ≡ Err WrongLength
   unfolding update_operand
   operand_short h = rw (ne_eqb (length w) update_write_bytes h)
 
@@ -32,23 +33,23 @@ module _ (c : Clock) (w : List ℕ) (forced : Bool) where
     judged_operand : update_operand c w forced ≡ judged p flags
     judged_operand = sized_operand size ∙ cc
 
-    pub operand_taken : flags ≡ 0 → update_operand c w forced ≡ Taken p
+    pub operand_taken : flags ≡ 0 → update_operand c w forced ≡ Ok p
     unfolding judged
     operand_taken h = judged_operand ∙ rw (eq-eqb flags 0 h)
 
-    pub operand_rejected : (flags ≡ 0 → ⊥) → update_operand c w forced ≡ Rejected flags
+    pub operand_rejected : (flags ≡ 0 → ⊥) → update_operand c w forced ≡ Err (Rejected flags)
     unfolding judged
     operand_rejected h = judged_operand ∙ rw (ne_eqb flags 0 h)
 
 -- a decision that is `Taken` comes from a write of the right length with no ground
-operand_reads : (c : Clock) (w : List ℕ) (forced : Bool) (p : Proposal) → update_operand c w forced ≡ Taken p
+operand_reads : (c : Clock) (w : List ℕ) (forced : Bool) (p : Proposal) → update_operand c w forced ≡ Ok p
     → (p ≡ proposal_at w) × ((length w ≡ update_write_bytes) × (grounds_of c.time p forced ≡ 0))
 unfolding update_operand judged
 operand_reads c w forced p h =
     go (eqb (length w) update_write_bytes) (eqb (grounds_of c.time (proposal_at w) forced) 0) refl refl h
   where
     go : (size none : Bool) → eqb (length w) update_write_bytes ≡ size → eqb (grounds_of c.time (proposal_at w) forced) 0 ≡ none
-        → pick size (pick none (Taken (proposal_at w)) (Rejected (grounds_of c.time (proposal_at w) forced))) WrongLength ≡ Taken p
+        → pick size (pick none (Ok (proposal_at w)) (Err (Rejected (grounds_of c.time (proposal_at w) forced)))) (Err WrongLength) ≡ Ok p
         → (p ≡ proposal_at w) × ((length w ≡ update_write_bytes) × (grounds_of c.time p forced ≡ 0))
     go true true s n e =
         let q : p ≡ proposal_at w = cc in
@@ -56,11 +57,11 @@ operand_reads c w forced p h =
     go true false s n e = let z : ◌≡◌ {A = ℕ} 0 1 = cc in absurd (omega arith)
     go false none s n e = let z : ◌≡◌ {A = ℕ} 0 1 = cc in absurd (omega arith)
 
-pub taken_reads : (c : Clock) (w : List ℕ) (p : Proposal) → decide_of c w ≡ Taken p → TakenFrom c w p
+pub taken_reads : (c : Clock) (w : List ℕ) (p : Proposal) → decide_of c w ≡ Ok p → TakenFrom c w p
 unfolding decide_of
 taken_reads c w p h = go (eqb (at w 0) propose_opcode) (eqb (at w 0) force_opcode) refl refl h
   where
-    from : (forced : Bool) → eqb (at w 0) force_opcode ≡ forced → update_operand c w forced ≡ Taken p → TakenFrom c w p
+    from : (forced : Bool) → eqb (at w 0) force_opcode ≡ forced → update_operand c w forced ≡ Ok p → TakenFrom c w p
     from forced f e =
         let r = operand_reads c w forced p e in
         record {
@@ -71,7 +72,7 @@ taken_reads c w p h = go (eqb (at w 0) propose_opcode) (eqb (at w 0) force_opcod
         }
 
     go : (propose force : Bool) → eqb (at w 0) propose_opcode ≡ propose → eqb (at w 0) force_opcode ≡ force
-        → pick propose (update_operand c w false) (pick force (update_operand c w true) Unsupported) ≡ Taken p
+        → pick propose (update_operand c w false) (pick force (update_operand c w true) (Err Unsupported)) ≡ Ok p
         → TakenFrom c w p
     go true force a f e =
         let two = eqb-true (at w 0) propose_opcode a in from false (ne_eqb (at w 0) force_opcode (λ three. omega arith)) e

@@ -1,23 +1,24 @@
 -- The DTCP response to a decision, byte for byte (document 002, Tables 3.15, 3.20 and 3.21).
-use Rattle.std.specs.Prelude.{List, [], ◌∷◌, ◌++◌, ℕ, ◌-◌, length, replicate}
+use Rattle.std.specs.Prelude.{List, [], ◌∷◌, ◌++◌, ℕ, ◌-◌, length, replicate, Err, Ok, Result}
 use Rattle.octets.specs.Numbers.{bytes2}
 use Rattle.codes.specs.Dtcp.{response_opcode, success, opcode_not_supported, invalid_operand, procedure_rejected}
-use Rattle.update_decide.specs.declared.decide.Decision.{Decision}
-use Rattle.update_decide.specs.declared.decide.Decision.TheVariants.{Unsupported, WrongLength, Rejected, Taken}
 use Rattle.update_decide.specs.declared.response.Response.{Response}
+use Rattle.update_decide.specs.declared.decide.NotTaken.{NotTaken}
+use Rattle.update_decide.specs.declared.decide.NotTaken.TheVariants.{Rejected, Unsupported, WrongLength}
+use Rattle.update_judge.specs.declared.proposal.Proposal.{Proposal}
 
 -- Table 3.20: the opcode of the write, the Response_Value, and the flags "if the Response_Value is Procedure Rejected, otherwise
 -- Excluded".
-unfoldable pub response_bytes : ℕ → Decision → List ℕ
-response_bytes opcode Unsupported = response_opcode ∷ opcode ∷ opcode_not_supported ∷ []
-response_bytes opcode WrongLength = response_opcode ∷ opcode ∷ invalid_operand ∷ []
-response_bytes opcode (Rejected flags) = response_opcode ∷ opcode ∷ procedure_rejected ∷ bytes2 flags
-response_bytes opcode (Taken p) = response_opcode ∷ opcode ∷ success ∷ []
+unfoldable pub response_bytes : ℕ → Result Proposal NotTaken → List ℕ
+response_bytes opcode (Err Unsupported) = response_opcode ∷ opcode ∷ opcode_not_supported ∷ []
+response_bytes opcode (Err WrongLength) = response_opcode ∷ opcode ∷ invalid_operand ∷ []
+response_bytes opcode (Err (Rejected flags)) = response_opcode ∷ opcode ∷ procedure_rejected ∷ bytes2 flags
+response_bytes opcode (Ok p) = response_opcode ∷ opcode ∷ success ∷ []
 
 -- the bytes with zeros after them up to 5
 abbrev pub padded : List ℕ → Response
 padded b = record { len = length b; bytes = b ++ replicate (5 - length b) 0 }
 
 -- as `response_of` hands them over
-unfoldable pub response_of : ℕ → Decision → Response
+unfoldable pub response_of : ℕ → Result Proposal NotTaken → Response
 response_of opcode d = padded (response_bytes opcode d)

@@ -3,11 +3,12 @@ ghost use Rattle.std.specs.Prelude.{◌≡◌, [], ◌∷◌};
 ghost use Rattle.codes.specs.Dtcp.{response_opcode};
 ghost use Rattle.update_decide.specs.Response.{padded, response_of};
 
-use crate::decide::Decision;
+use crate::decide::NotTaken;
 use codes::dtcp::{
     INVALID_OPERAND, OPCODE_NOT_SUPPORTED, PROCEDURE_REJECTED, RESPONSE_OPCODE, SUCCESS,
 };
 use octets::numbers::bytes2;
+use update_judge::proposal::Proposal;
 
 // A response's bytes, and zeros after them up to the longest response's length.
 #[derive(Clone, Copy)]
@@ -26,19 +27,20 @@ fn short(opcode: u8, value: u8) -> Response
 }
 
 // The response to a write with this opcode.
-pub fn response_of(opcode: u8, d: Decision) -> Response
+#[tactic(auto, unfolding(crate::specs::Response::response_of, crate::specs::Response::response_bytes))]
+pub fn response_of(opcode: u8, d: Result<Proposal, NotTaken>) -> Response
     ensures { result ≡ response_of opcode d }
 {
     match d {
-        Decision::Unsupported => short(opcode, OPCODE_NOT_SUPPORTED),
-        Decision::WrongLength => short(opcode, INVALID_OPERAND),
-        Decision::Rejected(flags) => {
+        Ok(_) => short(opcode, SUCCESS),
+        Err(NotTaken::Unsupported) => short(opcode, OPCODE_NOT_SUPPORTED),
+        Err(NotTaken::WrongLength) => short(opcode, INVALID_OPERAND),
+        Err(NotTaken::Rejected(flags)) => {
             let f = bytes2(flags);
             Response {
                 len: 5,
                 bytes: [RESPONSE_OPCODE, opcode, PROCEDURE_REJECTED, f[0], f[1]],
             }
         }
-        Decision::Taken(_) => short(opcode, SUCCESS),
     }
 }

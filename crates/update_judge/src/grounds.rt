@@ -22,6 +22,7 @@ pub const WRONG_EPOCH: u16 = 0x0040;
 pub const REALISTIC_SECONDS: u32 = 86_400;
 
 // The flags told so far, and this one where its ground applies.
+#[tactic(auto, unfolding(crate::specs::Grounds::flag_if))]
 fn also(flags: u16, applies: bool, flag: u16) -> u16
     requires { flags + flag ≤ 65535 }
     ensures { (result ≡ flags + flag_if applies flag) × (result ≤ flags + flag) }
@@ -30,12 +31,14 @@ fn also(flags: u16, applies: bool, flag: u16) -> u16
 }
 
 // The larger minus the smaller: a clock may be set back.
+#[tactic(auto, unfolding(crate::specs::Grounds::seconds_apart))]
 pub fn seconds_apart(a: u32, b: u32) -> u32
     ensures { result ≡ seconds_apart a b }
 {
-    if a < b { b - a } else { a - b }
+    a.abs_diff(b)
 }
 
+#[tactic(auto, unfolding(crate::specs::Grounds::epoch_b))]
 fn wrong_epoch(p: Proposal) -> bool
     ensures { result ≡ epoch_b p }
 {
@@ -43,6 +46,7 @@ fn wrong_epoch(p: Proposal) -> bool
 }
 
 // The number is compared as it stands, whatever its epoch.
+#[tactic(auto, unfolding(crate::specs::Grounds::range_b))]
 fn out_of_range(p: Proposal) -> bool
     ensures { result ≡ range_b p }
 {
@@ -51,12 +55,14 @@ fn out_of_range(p: Proposal) -> bool
     !inside
 }
 
+#[tactic(auto, unfolding(crate::specs::Grounds::lower_b))]
 fn lower_quality(time: Time, p: Proposal) -> bool
     ensures { result ≡ lower_b time p }
 {
     grade_of(p) < clock_grade(time.status)
 }
 
+#[tactic(auto, unfolding(crate::specs::Grounds::unrealistic_b))]
 fn unrealistic(time: Time, p: Proposal) -> bool
     ensures { result ≡ unrealistic_b time p }
 {

@@ -17,6 +17,7 @@ pub struct Proposal {
 }
 
 // Behind the door: a write of the right length is taken for what its bytes say.
+#[tactic(auto, unfolding(crate::specs::Proposal::proposal_at))]
 pub fn proposal_at(write: &[u8]) -> Proposal
     requires { length write.now ≡ update_write_bytes }
     ensures { result ≡ proposal_at write.now }

@@ -19,7 +19,7 @@ pub returns-then-seconds : goal.returns-then-seconds
 returns-then-seconds c = sym (dated_outside c.args.seconds (omega arith))
 
 pub month_of-month-requires : goal.month_of-month-requires
-month_of-month-requires c = (c.requires, omega arith)
+month_of-month-requires c = omega arith
 
 pub overflow_cast-result-3 : goal.overflow_cast-result-3
 overflow_cast-result-3 c = omega (arith, short (goal.at.overflow_cast-result-3 c).After-days_before)

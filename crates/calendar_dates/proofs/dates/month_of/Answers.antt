@@ -13,7 +13,7 @@ abbrev near : After-days_before → ℕ
 near b = 48 * (day b + 2) / 1461
 
 few : (b : After-days_before) → day b < 36525
-few b = b.requires.1
+few b = b.requires
 
 pub overflow_sub-result : goal.overflow_sub-result
 overflow_sub-result c = omega (arith, near_some (day (goal.at.overflow_sub-result c).After-days_before) (near (goal.at.overflow_sub-result c).After-days_before) (few (goal.at.overflow_sub-result c).After-days_before) refl (rw c.days_before.ensures at c.if-day-days_before.true))

@@ -5,4 +5,4 @@ use Rattle.calendar_text.proofs.written.date_text.Goals as goal
 
 pub returns : goal.returns
 unfolding two_digits date_text
-returns c = rw (c.ones-7.ensures, c.tens-7.ensures, c.ones-6.ensures, c.tens-6.ensures, c.ones-5.ensures, c.tens-5.ensures, c.ones-4.ensures, c.tens-4.ensures, c.ones-3.ensures, c.tens-3.ensures, c.ones-2.ensures, c.tens-2.ensures, c.ones.ensures, c.tens.ensures)
+returns c = rw (c.digit-14.ensures, c.digit-13.ensures, c.digit-12.ensures, c.digit-11.ensures, c.digit-10.ensures, c.digit-9.ensures, c.digit-8.ensures, c.digit-7.ensures, c.digit-6.ensures, c.digit-5.ensures, c.digit-4.ensures, c.digit-3.ensures, c.digit-2.ensures, c.digit.ensures)

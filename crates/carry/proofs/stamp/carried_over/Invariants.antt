@@ -10,8 +10,5 @@ use Rattle.carry.proofs.stamp.carried_over.Given as goal
 
 abbrev pub invariant-loop-age : goal.invariant-loop-age
 invariant-loop-age l =
-    (l.among ≡ count l.t) × (l.age ≤ l.among) × Within l.age l.sum
+    (l.among ≡ count l.t) × Within l.age l.sum
     × (carried_over (pos l.stamp) (drop l.from (held l.t)) ≡ carried_over l.sum (drop l.age (held l.t)))
-
-abbrev pub decreases-loop-age : goal.decreases-loop-age
-decreases-loop-age l = l.among - l.age

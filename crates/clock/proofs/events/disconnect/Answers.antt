@@ -9,4 +9,4 @@ returns-then-not-clock_ok c = sym (disconnect_2 _ (sym c.clock_ok.ensures ∙ c.
 
 pub returns : goal.returns
 unfolding disconnected
-returns c = rw c.all_off-switches.ensures (sym (disconnect_done _ (sym c.clock_ok.ensures ∙ c.if-not-clock_ok.false)))
+returns c = rw c.all_off-c.ensures (sym (disconnect_done _ (sym c.clock_ok.ensures ∙ c.if-not-clock_ok.false)))

@@ -9,17 +9,17 @@ use native.Mathlib.Omega.{arith}
 use Rattle.clock.proofs.events.seconds.Goals as goal
 use Rattle.clock.proofs.events.seconds.Goals.{Else-not-clock_ok}
 
-obeys : (c : Else-not-clock_ok) → clock_b c.args.c ≡ true
+obeys : (c : Else-not-clock_ok) → clock_b c.args.c.now ≡ true
 obeys c = sym c.clock_ok.ensures ∙ c.if-not-clock_ok.false
 
 pub returns-then-not-clock_ok : goal.returns-then-not-clock_ok
 returns-then-not-clock_ok c = sym (seconds_2 _ _ (sym c.clock_ok.ensures ∙ c.if-not-clock_ok.true))
 
-pub overflow_sub-base : goal.overflow_sub-base
-overflow_sub-base c = let r = (clock_reads _ (obeys (goal.at.overflow_sub-base c).Else-not-clock_ok)).time in omega arith
+pub overflow_sub-c : goal.overflow_sub-c
+overflow_sub-c c = let r = (clock_reads _ (obeys (goal.at.overflow_sub-c c).Else-not-clock_ok)).time in omega arith
 
-pub returns-then-base-n : goal.returns-then-base-n
-returns-then-base-n c = sym (seconds_7 _ _ (obeys (goal.at.returns-then-base-n c).Else-not-clock_ok) (omega arith))
+pub returns-then-c-n : goal.returns-then-c-n
+returns-then-c-n c = sym (seconds_7 _ _ (obeys (goal.at.returns-then-c-n c).Else-not-clock_ok) (omega arith))
 
 pub returns : goal.returns
 unfolding with_base

@@ -3,10 +3,10 @@ use mathlib.Core.Path.{sym, ap, ◌∙◌}
 use Rattle.clock.specs.Obeys.{running_b}
 use Rattle.clock.proofs.obeys.running_ok.Goals as goal
 
-pub returns-in-Idle : goal.returns-in-Idle
+pub returns-in-None : goal.returns-in-None
 unfolding running_b
-returns-in-Idle c = rw c.in-Idle.is
+returns-in-None c = rw c.in-None.is
 
-pub returns-in-Reporting : goal.returns-in-Reporting
+pub returns-in-Some : goal.returns-in-Some
 unfolding running_b
-returns-in-Reporting c = c.report_ok.ensures ∙ sym (ap running_b c.in-Reporting.is)
+returns-in-Some c = c.report_ok.ensures ∙ sym (ap running_b c.in-Some.is)

@@ -4,4 +4,4 @@ use Rattle.clock.proofs.state.new_reader.Goals as goal
 
 pub returns : goal.returns
 unfolding new_reader
-returns c = simp (c.all_off-switches.ensures, c.new_time-time.ensures)
+returns c = simp (c.all_off.ensures, c.new_time.ensures)

@@ -1,14 +1,14 @@
 -- A note that was made is carried.
-use borrow.Author.Tests.{not-true, not-false}
-use Rattle.day_evening.proofs.FetchLaws.{missed, seen}
+use mathlib.Core.Path.{ap}
+use Rattle.std.proofs.Common.{rules}
+use Rattle.day_sheet.specs.Sheet.{seen}
+use Rattle.day_evening.specs.Fetch.{sight_of}
 use Rattle.day_evening.proofs.fetch.sight.Goals as goal
 
-pub returns-then-not-note : goal.returns-then-not-note
-returns-then-not-note c =
-    let a = c.args in
-    missed a.note a.table (not-true _ c.if-not-note.true)
+pub returns-in_err-note : goal.returns-in_err-note
+unfolding sight_of
+returns-in_err-note c = search rules
 
 pub returns : goal.returns
-returns c =
-    let a = c.args in
-    seen a.note a.table (not-false _ c.if-not-note.false) c.carry.ensures
+unfolding sight_of
+returns c = rw c.in_ok-note.was (ap (seen c.in_ok-note.note.stamp) c.carry.ensures)

@@ -8,4 +8,4 @@ pub returns : goal.returns
 unfolding failed_of
 returns c =
     let r = c.args.r in
-    ap (λ (x : Outcome). reader_after r x) c.fault-reply.ensures
+    ap (λ (x : Outcome). reader_after r x) c.fault.ensures

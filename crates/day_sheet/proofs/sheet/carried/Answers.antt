@@ -3,10 +3,10 @@ use mathlib.Core.Path.{sym, ap, ◌∙◌}
 use Rattle.day_sheet.specs.Sheet.{carried_of}
 use Rattle.day_sheet.proofs.sheet.carried.Goals as goal
 
-pub returns-in-Missed : goal.returns-in-Missed
+pub returns-in-None : goal.returns-in-None
 unfolding carried_of
-returns-in-Missed c = sym (ap carried_of c.in-Missed.is)
+returns-in-None c = sym (ap carried_of c.in-None.is)
 
-pub returns-in-Seen : goal.returns-in-Seen
+pub returns-in-Some : goal.returns-in-Some
 unfolding carried_of
-returns-in-Seen c = c.outcome.ensures ∙ sym (ap carried_of c.in-Seen.is)
+returns-in-Some c = c.outcome.ensures ∙ sym (ap carried_of c.in-Some.is)

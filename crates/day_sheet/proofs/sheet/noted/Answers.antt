@@ -4,10 +4,10 @@ use Rattle.day_sheet.specs.Sheet.{noted_of, seconds_in}
 use native.Mathlib.Omega.{arith}
 use Rattle.day_sheet.proofs.sheet.noted.Goals as goal
 
-pub returns-in-Missed : goal.returns-in-Missed
+pub returns-in-None : goal.returns-in-None
 unfolding noted_of seconds_in
-returns-in-Missed c = (sym (ap noted_of c.in-Missed.is), omega arith)
+returns-in-None c = (sym (ap noted_of c.in-None.is), omega arith)
 
-pub returns-in-Seen : goal.returns-in-Seen
+pub returns-in-Some : goal.returns-in-Some
 unfolding noted_of seconds_in
-returns-in-Seen c = (sym (ap noted_of c.in-Seen.is), omega arith)
+returns-in-Some c = (sym (ap noted_of c.in-Some.is), omega arith)

@@ -1,9 +1,7 @@
 -- The gap of two times, else `-`.
-use mathlib.Core.List.{[], ◌∷◌}
-use types.Run.{miss}
 use mathlib.Core.Path.{ap}
 use Rattle.text.specs.Line.{text_of, decimal}
-use Rattle.day_sheet.specs.Sheet.{apart_text}
+use Rattle.day_sheet.specs.Sheet.{gap, apart_text}
 use Rattle.day_sheet.proofs.SheetLaws.{first_no_time, second_no_time, as_put}
 use Rattle.day_sheet.proofs.sheet.with_apart.Goals as goal
 
@@ -17,5 +15,5 @@ returns-in_default-y c =
     c.with_byte-in_default-y.ensures
 
 pub returns : goal.returns
-unfolding apart_text
-returns c = as_put (text_of c.args.line) (rw (c.in-At.is, c.in-At-y.is) (ap decimal c.gap.ensures)) c.with_number.ensures
+unfolding apart_text gap
+returns c = as_put (text_of c.args.line) (rw (c.in-At.is, c.in-At-y.is) (ap decimal c.abs_diff.ensures)) c.with_number.ensures

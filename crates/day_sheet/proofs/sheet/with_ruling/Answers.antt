@@ -6,14 +6,14 @@ use Rattle.day_sheet.proofs.SheetLaws.{as_put}
 use native.Mathlib.Omega.{arith}
 use Rattle.day_sheet.proofs.sheet.with_ruling.Goals as goal
 
-pub returns-in-NoPair : goal.returns-in-NoPair
+pub returns-in-None : goal.returns-in-None
 unfolding ruling_text
-returns-in-NoPair c =
-    let e = sym (ap ruling_text c.in-NoPair.is) in
-    (as_put (text_of c.args.line) e c.with_byte.ensures, rw c.in-NoPair.is (omega arith))
+returns-in-None c =
+    let e = sym (ap ruling_text c.in-None.is) in
+    (as_put (text_of c.args.line) e c.with_byte.ensures, rw c.in-None.is (omega arith))
 
-pub returns-in-Said : goal.returns-in-Said
+pub returns-in-Some : goal.returns-in-Some
 unfolding ruling_text
-returns-in-Said c =
-    let e = sym (ap ruling_text c.in-Said.is) in
-    (as_put (text_of c.args.line) e c.with_verdict.ensures.0, rw c.in-Said.is c.with_verdict.ensures.1)
+returns-in-Some c =
+    let e = sym (ap ruling_text c.in-Some.is) in
+    (as_put (text_of c.args.line) e c.with_verdict.ensures.0, rw c.in-Some.is c.with_verdict.ensures.1)

@@ -1,5 +1,5 @@
 -- Each verdict by its own text, and a refusal's number as the ramp gives it.
-use mathlib.Core.Path.{sym, ap}
+use Rattle.std.proofs.Common.{rules}
 use Prim.Native.Nat.{◌≤◌}
 use lib.ListN.{length}
 use Rattle.text.specs.Line.{text_of}
@@ -13,29 +13,29 @@ use Rattle.day_sheet.proofs.sheet.with_verdict.Goals.{After-verdict_number-numbe
 short : (c : After-verdict_number-number) → length (verdict_text c.args.v) ≤ 9
 short c = verdict_short c.args.v c.verdict_number-number.ensures (omega arith)
 
-pub returns-in-One : goal.returns-in-One
+pub returns-in-Ok-One : goal.returns-in-Ok-One
 unfolding verdict_text
-returns-in-One c = (as_put (text_of c.args.line) (sym (ap verdict_text c.in-One.is)) c.with_word.ensures, short (goal.at.returns-in-One c).After-verdict_number-number)
+returns-in-Ok-One c = (as_put (text_of c.args.line) (search rules) c.with_word.ensures, short (goal.at.returns-in-Ok-One c).After-verdict_number-number)
 
-pub returns-in-Two : goal.returns-in-Two
+pub returns-in-Ok-Two : goal.returns-in-Ok-Two
 unfolding verdict_text
-returns-in-Two c = (as_put (text_of c.args.line) (sym (ap verdict_text c.in-Two.is)) c.with_word-in-Two.ensures, short (goal.at.returns-in-Two c).After-verdict_number-number)
+returns-in-Ok-Two c = (as_put (text_of c.args.line) (search rules) c.with_word-in-Ok-Two.ensures, short (goal.at.returns-in-Ok-Two c).After-verdict_number-number)
 
-pub returns-in-WindowTooWide : goal.returns-in-WindowTooWide
-returns-in-WindowTooWide c = (as_put (text_of c.args.line) (no_side c.args.v c.verdict_number-number.ensures c.in-WindowTooWide.is) c.with_number.ensures, short (goal.at.returns-in-WindowTooWide c).After-verdict_number-number)
+pub returns-in-Err-WindowTooWide : goal.returns-in-Err-WindowTooWide
+returns-in-Err-WindowTooWide c = (as_put (text_of c.args.line) (no_side c.args.v c.verdict_number-number.ensures (search rules)) c.with_number.ensures, short (goal.at.returns-in-Err-WindowTooWide c).After-verdict_number-number)
 
-pub returns-in-LeftRefused : goal.returns-in-LeftRefused
-returns-in-LeftRefused c =
+pub returns-in-Err-LeftRefused : goal.returns-in-Err-LeftRefused
+returns-in-Err-LeftRefused c =
     let line = text_of c.args.line in (
-      as_put line (left_side c.args.v c.verdict_number-number.ensures c.in-LeftRefused.is)
-          (fitted_then line left_word _ c.with_word-in-LeftRefused.ensures c.with_number-in-LeftRefused.ensures),
-      short (goal.at.returns-in-LeftRefused c).After-verdict_number-number,
+      as_put line (left_side c.args.v c.verdict_number-number.ensures {n = c.in-Err-LeftRefused.field-0-0} (search rules))
+          (fitted_then line left_word _ c.with_word-in-Err-LeftRefused.ensures c.with_number-in-Err-LeftRefused.ensures),
+      short (goal.at.returns-in-Err-LeftRefused c).After-verdict_number-number,
     )
 
-pub returns-in-RightRefused : goal.returns-in-RightRefused
-returns-in-RightRefused c =
+pub returns-in-Err-RightRefused : goal.returns-in-Err-RightRefused
+returns-in-Err-RightRefused c =
     let line = text_of c.args.line in (
-      as_put line (right_side c.args.v c.verdict_number-number.ensures c.in-RightRefused.is)
-          (fitted_then line right_word _ c.with_word-in-RightRefused.ensures c.with_number-in-RightRefused.ensures),
-      short (goal.at.returns-in-RightRefused c).After-verdict_number-number,
+      as_put line (right_side c.args.v c.verdict_number-number.ensures {n = c.in-Err-RightRefused.field-0-0} (search rules))
+          (fitted_then line right_word _ c.with_word-in-Err-RightRefused.ensures c.with_number-in-Err-RightRefused.ensures),
+      short (goal.at.returns-in-Err-RightRefused c).After-verdict_number-number,
     )

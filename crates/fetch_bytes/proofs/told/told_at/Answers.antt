@@ -4,10 +4,10 @@ use Rattle.octets.specs.Numbers.{at}
 use Rattle.fetch_bytes.specs.Told.{told_at}
 use Rattle.fetch_bytes.proofs.told.told_at.Goals as goal
 
-pub returns-then-numbers-eq0 : goal.returns-then-numbers-eq0
+pub returns-then-held-eq0 : goal.returns-then-held-eq0
 unfolding told_at
-returns-then-numbers-eq0 c = rw (eq-eqb (at c.args.numbers 0) 0 c.if-numbers-eq0.true)
+returns-then-held-eq0 c = rw (eq-eqb (at c.args.numbers 0) 0 c.if-held-eq0.true)
 
 pub returns : goal.returns
 unfolding told_at
-returns c = rw (ne_eqb (at c.args.numbers 0) 0 c.if-numbers-eq0.false)
+returns c = rw (ne_eqb (at c.args.numbers 0) 0 c.if-held-eq0.false)

@@ -7,6 +7,6 @@ pub returns-in-None : goal.returns-in-None
 unfolding told_numbers
 returns-in-None c = sym (ap told_numbers c.in-None.is)
 
-pub returns-in-Held : goal.returns-in-Held
+pub returns-in-Some : goal.returns-in-Some
 unfolding told_numbers
-returns-in-Held c = sym (ap told_numbers c.in-Held.is)
+returns-in-Some c = sym (ap told_numbers c.in-Some.is)

@@ -1,5 +1,5 @@
 -- After w words the first w have their bits outside cleared, and the others are as they were.
-use Prim.Native.Nat.{◌≤◌, ◌-◌}
+use Prim.Native.Nat.{◌≤◌}
 use mathlib.Core.Path.{◌≡◌}
 use mathlib.Core.List.{◌++◌}
 use lib.ListN.{length, take, drop}
@@ -8,7 +8,4 @@ use Rattle.fetch_map.proofs.tell.clear_outside.Given as goal
 
 abbrev pub invariant-loop-w : goal.invariant-loop-w
 invariant-loop-w l =
-    (l.w ≤ length l.initial.map) × (length l.map ≡ length l.initial.map) × (l.map ≡ take l.w (inside_from l.told 0 l.initial.map) ++ drop l.w l.initial.map)
-
-abbrev pub decreases-loop-w : goal.decreases-loop-w
-decreases-loop-w l = length l.initial.map - l.w
+    (l.w ≤ length l.initial.words) × (length l.words ≡ length l.initial.words) × (l.words ≡ take l.w (inside_from l.told 0 l.initial.words) ++ drop l.w l.initial.words)

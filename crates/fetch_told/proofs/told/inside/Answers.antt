@@ -1,16 +1,18 @@
--- By the steps from the oldest, where there is a range.
-use mathlib.Core.Path.{sym, ap, ap₂, ◌∙◌}
-use lib.Dec.{leb}
+-- None where none is told, else by the span.
+use mathlib.Core.Path.{◌≡◌}
+use mathlib.Core.Bool.{Bool, false}
+use Prim.Native.Nat.{ℕ}
+use Rattle.std.specs.Prelude.{Option, Some, None, MatchOption}
+use Rattle.std.proofs.Common.{rules}
 use Rattle.fetch_told.specs.Told.{inside_b}
-use Rattle.fetch_told.specs.declared.told.Told.{Told}
+use Rattle.fetch_told.specs.declared.told.Span.{Span}
 use Rattle.fetch_told.proofs.told.inside.Goals as goal
 
-pub returns-in-None : goal.returns-in-None
+by_case : (P : Span → Type 0) (told : Option Span) (s : ℕ) (b : Bool) → MatchOption told (b ≡ false) P
+    → ((held : Span) → P held → b ≡ inside_b (Some held) s) → b ≡ inside_b told s
 unfolding inside_b
-returns-in-None c = let a = c.args in sym (ap (λ (t : Told). inside_b t a.number) c.in-None.is)
+by_case P None s b h k = h
+by_case P (Some held) s b h k = k held h
 
-pub returns-in-Held : goal.returns-in-Held
-unfolding inside_b
-returns-in-Held c =
-    let a = c.args in
-    ap₂ leb c.steps_after.ensures c.steps_after-in-Held.ensures ∙ sym (ap (λ (t : Told). inside_b t a.number) c.in-Held.is)
+pub returns : goal.returns
+returns c = by_case _ c.args.told c.args.number c.is_some_and.result c.is_some_and.ensures (λ held h. search rules)

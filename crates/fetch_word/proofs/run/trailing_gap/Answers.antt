@@ -5,4 +5,4 @@ use native.Mathlib.Omega.{arith}
 use Rattle.fetch_word.proofs.run.trailing_gap.Goals as goal
 
 pub returns : goal.returns
-returns c = let a = c.args in c.least.ensures ∙ gap_is a.x a.n (omega arith)
+returns c = let a = c.args in c.min.ensures ∙ gap_is a.x a.n (omega arith)

@@ -5,4 +5,4 @@ use native.Mathlib.Omega.{arith}
 use Rattle.fetch_word.proofs.run.trailing_ones.Goals as goal
 
 pub returns : goal.returns
-returns c = let a = c.args in c.least.ensures ∙ ones_are a.x a.n (omega arith) (omega arith)
+returns c = let a = c.args in c.min.ensures ∙ ones_are a.x a.n (omega arith) (omega arith)

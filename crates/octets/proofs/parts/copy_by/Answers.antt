@@ -9,4 +9,4 @@ pub returns : goal.returns
 returns c =
     let a = c.args in
     copied_back a.to.now a.from.now a.k (length a.by.now) (search rules)
-    (c.copy_each-2.ensures ∙ c.copy_each.ensures ∙ lent a.from.now a.k (length a.by.now))
+    (c.copy_from_slice-2.ensures.after ∙ c.copy_from_slice.ensures.after ∙ lent a.from.now a.k (length a.by.now))

@@ -1,9 +1,16 @@
 -- The nearer of the two.
-use borrow.Author.Tests.{le-leb, lt-leb}
+use mathlib.Core.Path.{◌≡◌, refl, ◌∙◌}
+use mathlib.Core.Bool.{Bool, true, false}
+use Prim.Native.Nat.{ℕ, min}
+use borrow.Author.Tests.{leb-true, leb-false}
+use lib.Dec.{leb}
+use native.Mathlib.Omega.{arith}
+use Rattle.octets.specs.Choice.{pick}
 use Rattle.racp_notify.proofs.notify.body_end.Goals as goal
 
-pub returns-then-len-reach : goal.returns-then-len-reach
-returns-then-len-reach c = rw (le-leb _ _ c.if-len-reach.true)
+nearer : (a b : ℕ) (t : Bool) → leb a b ≡ t → min a b ≡ pick t a b
+nearer a b true e = let h = leb-true a b e in omega arith
+nearer a b false e = let h = leb-false a b e in omega arith
 
-pub returns-else-len-reach : goal.returns-else-len-reach
-returns-else-len-reach c = rw (lt-leb _ _ c.if-len-reach.false)
+pub returns : goal.returns
+returns c = c.min.ensures ∙ nearer c.args.len c.args.reach _ refl

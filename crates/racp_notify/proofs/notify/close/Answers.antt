@@ -5,4 +5,4 @@ use Rattle.racp_notify.proofs.notify.close.Goals as goal
 
 pub returns : goal.returns
 unfolding noticed
-returns c = rw (c.with_running.ensures, c.put.ensures, c.closing-response.ensures, closing_length_lem _ _)
+returns c = rw (c.put.ensures, c.closing-response.ensures, closing_length_lem _ _)

@@ -3,16 +3,16 @@ use Rattle.racp_notify.specs.Notify.{said_of}
 use Rattle.racp_notify.proofs.NotifyLaws.{said_left}
 use Rattle.racp_notify.proofs.notify.say.Goals as goal
 
-pub send-requires : goal.send-requires
-send-requires c = (c.requires.0, c.requires.1, c.requires.3, c.requires.4, rw c.in-From.is at c.requires.5)
-
-pub returns-in-Nothing : goal.returns-in-Nothing
+pub returns-in_default : goal.returns-in_default
 unfolding said_of
-returns-in-Nothing c =
+returns-in_default c =
     let a = c.args in
-    said_left a.c a.t.now a.q a.r a.out.now _ _ c.in-Nothing.is c.close.ensures
+    said_left a.c.now a.t.now a.q a.r a.out.now _ _ c.in_default.is c.close.ensures
 
-pub returns-in-From : goal.returns-in-From
-returns-in-From c =
+pub send-requires : goal.send-requires
+send-requires c = (c.requires.0, c.requires.1, c.requires.3, c.requires.4, rw c.in-Some.is at c.requires.5)
+
+pub returns : goal.returns
+returns c =
     let a = c.args in
-    said_left a.c a.t.now a.q a.r a.out.now _ _ c.in-From.is c.send.ensures
+    said_left a.c.now a.t.now a.q a.r a.out.now _ _ c.in-Some.is c.send.ensures

@@ -1,5 +1,5 @@
 -- The next record is held and has bytes unsent, by row 2; its segment, and the report after it.
-use mathlib.Core.Path.{◌≡◌}
+use mathlib.Core.Path.{◌≡◌, refl}
 use mathlib.Core.List.{◌∷◌}
 use Prim.Native.Nat.{◌+◌}
 use lib.ListN.{drop}
@@ -29,7 +29,7 @@ pub returns : goal.returns
 returns c =
     said_next _ _ _ _ _ _ _ _ _ _ _ _ _ _
     (next (goal.at.returns c).After-record_at-next)
-    c.with_running.ensures
+    refl
     c.counter_after.ensures
     c.left_after-left.ensures
     c.put_segment-len.ensures.0

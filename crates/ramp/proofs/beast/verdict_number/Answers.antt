@@ -1,24 +1,20 @@
 -- Each verdict's number, by `verdict_number`.
-use mathlib.Core.Path.{sym, ap}
+use Rattle.std.proofs.Common.{rules}
 use Rattle.ramp.specs.Beast.{verdict_number}
 use Rattle.ramp.proofs.beast.verdict_number.Goals as goal
 
-pub returns-in-One : goal.returns-in-One
+pub returns-in-Ok : goal.returns-in-Ok
 unfolding verdict_number
-returns-in-One c = sym (ap verdict_number c.in-One.is)
+returns-in-Ok c = search rules
 
-pub returns-in-Two : goal.returns-in-Two
+pub returns-in-Err-WindowTooWide : goal.returns-in-Err-WindowTooWide
 unfolding verdict_number
-returns-in-Two c = sym (ap verdict_number c.in-Two.is)
+returns-in-Err-WindowTooWide c = search rules
 
-pub returns-in-WindowTooWide : goal.returns-in-WindowTooWide
+pub returns-in-Err-LeftRefused : goal.returns-in-Err-LeftRefused
 unfolding verdict_number
-returns-in-WindowTooWide c = sym (ap verdict_number c.in-WindowTooWide.is)
+returns-in-Err-LeftRefused c = search rules
 
-pub returns-in-LeftRefused : goal.returns-in-LeftRefused
+pub returns-in-Err-RightRefused : goal.returns-in-Err-RightRefused
 unfolding verdict_number
-returns-in-LeftRefused c = sym (ap verdict_number c.in-LeftRefused.is)
-
-pub returns-in-RightRefused : goal.returns-in-RightRefused
-unfolding verdict_number
-returns-in-RightRefused c = sym (ap verdict_number c.in-RightRefused.is)
+returns-in-Err-RightRefused c = search rules

@@ -5,16 +5,16 @@ use Rattle.rows.proofs.RowLaws.{left_gone, left_held}
 use native.Mathlib.Omega.{arith}
 use Rattle.rows.proofs.whole.left_ok.Goals as goal
 
-pub returns-then-among-age : goal.returns-then-among-age
-returns-then-among-age c = rw c.in-From.is (sym (left_gone _ _ _ _ (omega (arith, c.held_count-among.ensures, c.age_of-age.ensures))))
-
-pub returns-in-Nothing : goal.returns-in-Nothing
+pub returns-in_default : goal.returns-in_default
 unfolding left_b
-returns-in-Nothing c = rw c.in-Nothing.is
+returns-in_default c = rw c.in_default.is
 
-pub returns-else-among-age : goal.returns-else-among-age
-returns-else-among-age c =
-    rw c.in-From.is
+pub returns-then-among-age : goal.returns-then-among-age
+returns-then-among-age c = rw c.in-Some.is (sym (left_gone _ _ _ _ (omega (arith, c.held_count-among.ensures, c.age_of-age.ensures))))
+
+pub returns : goal.returns
+returns c =
+    rw c.in-Some.is
     (c.both.ensures
     ∙ rw (c.matches.ensures, c.length_of.ensures, c.held_count-among.ensures, c.age_of-age.ensures)
     (sym

@@ -1,34 +1,39 @@
--- Each word by its number, and the last for any other.
-use borrow.Author.Tests.{ne_eqb}
+-- Each word by its kind, and the last for any other.
+use mathlib.Core.Path.{◌≡◌, refl, sym, ◌∙◌}
+use Rattle.salvage_report.specs.Kinds.{byte_of}
+use Rattle.salvage_report.specs.declared.kind.Kind.{Kind}
+use Rattle.salvage_report.specs.declared.kind.Kind.TheVariants.{Slot, Slots, Held, Offset, Next, Rest}
 use Rattle.salvage_text.specs.Told.{slots_word, held_word, offset_word, next_word, rest_word, field_word}
 use Rattle.salvage_text.proofs.LineLaws.{one_word}
 use native.Mathlib.Omega.{arith}
 use Rattle.salvage_text.proofs.lines.field_word.Goals as goal
 
-pub returns-in-1 : goal.returns-in-1
+pub returns-in-Slots : goal.returns-in-Slots
 unfolding field_word
-returns-in-1 c = rw c.in-1.is (one_word slots_word (omega arith) c.empty.ensures c.with_word.ensures)
+returns-in-Slots c = rw c.in-Slots.is (one_word slots_word (omega arith) c.empty.ensures c.with_word.ensures)
 
-pub returns-in-2 : goal.returns-in-2
+pub returns-in-Held : goal.returns-in-Held
 unfolding field_word
-returns-in-2 c = rw c.in-2.is (one_word held_word (omega arith) c.empty-in-2.ensures c.with_word-in-2.ensures)
+returns-in-Held c = rw c.in-Held.is (one_word held_word (omega arith) c.empty-in-Held.ensures c.with_word-in-Held.ensures)
 
-pub returns-in-3 : goal.returns-in-3
+pub returns-in-Offset : goal.returns-in-Offset
 unfolding field_word
-returns-in-3 c = rw c.in-3.is (one_word offset_word (omega arith) c.empty-in-3.ensures c.with_word-in-3.ensures)
+returns-in-Offset c = rw c.in-Offset.is (one_word offset_word (omega arith) c.empty-in-Offset.ensures c.with_word-in-Offset.ensures)
 
-pub returns-in-4 : goal.returns-in-4
+pub returns-in-Next : goal.returns-in-Next
 unfolding field_word
-returns-in-4 c = rw c.in-4.is (one_word next_word (omega arith) c.empty-in-4.ensures c.with_word-in-4.ensures)
+returns-in-Next c = rw c.in-Next.is (one_word next_word (omega arith) c.empty-in-Next.ensures c.with_word-in-Next.ensures)
 
 pub returns-in_default : goal.returns-in_default
 unfolding field_word
 returns-in_default c =
-    let no = c.in_default.in_default-own.rest in
-    simp (
-      ne_eqb _ 1 no.0.0.0.1,
-      ne_eqb _ 2 no.0.0.1,
-      ne_eqb _ 3 no.0.1,
-      ne_eqb _ 4 no.1,
-    )
-    (one_word rest_word (omega arith) c.empty-in_default.ensures c.with_word-in_default.ensures)
+    one_word rest_word (omega arith) c.empty-in_default.ensures c.with_word-in_default.ensures
+    ∙ sym (other c.args.kind c.in_default.not-Slots c.in_default.not-Held c.in_default.not-Offset c.in_default.not-Next)
+  where
+    other : (k : Kind) → (k ≡ Slots → ⊥) → (k ≡ Held → ⊥) → (k ≡ Offset → ⊥) → (k ≡ Next → ⊥) → field_word (byte_of k) ≡ rest_word
+    other Slot a b d e = refl
+    other Slots a b d e = absurd (a refl)
+    other Held a b d e = absurd (b refl)
+    other Offset a b d e = absurd (d refl)
+    other Next a b d e = absurd (e refl)
+    other Rest a b d e = refl

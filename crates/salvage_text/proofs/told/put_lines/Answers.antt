@@ -1,55 +1,45 @@
--- What is left of the lines, laid over the buffer where it is filled up to, gives the whole.
-use mathlib.Core.Path.{refl, sym, ap, ◌∙◌}
+-- The lines of the entries that are left, laid over the buffer where it is filled up to, give the whole.
+use mathlib.Core.Path.{◌≡◌, sym, ap, ◌∙◌}
 use mathlib.Core.List.{List, ◌++◌}
-use Prim.Native.Nat.{ℕ, ◌+◌, ◌*◌, ◌-◌, ◌/◌, ◌≤◌}
-use lib.ListN.{length, drop}
-use Rattle.octets.proofs.PartLaws.{lent}
+use Prim.Native.Nat.{ℕ, suc, ◌/◌, ◌≤◌}
+use lib.ListN.{length, length-append}
+use Rattle.std.specs.Slice.Iter.{chunks_exact_rest}
 use Rattle.text.specs.Laid.{laid}
 use Rattle.text.specs.Line.{text_of}
 use Rattle.text.proofs.LaidLaws.{laid_then, laid_nothing}
-use Rattle.salvage_text.specs.Told.{entry_line, lines_of}
-use Rattle.salvage_text.proofs.ToldLaws.{lines_next, lines_end, lines_all}
+use Rattle.salvage_text.specs.Told.{report_lines}
+use Rattle.salvage_text.proofs.ToldLaws.{lines_next, lines_end}
 use native.Mathlib.Omega.{arith}
 use Rattle.std.proofs.Common.{rules}
 use Rattle.salvage_text.proofs.told.put_lines.Goals as goal
-use Rattle.salvage_text.proofs.told.put_lines.Goals.{After-entry_line}
 
-short : (c : After-entry_line) → length (text_of c.entry_line.result) ≤ 53
-short c = rw c.entry_line.ensures.0 c.entry_line.ensures.1
-
-room : (c : After-entry_line)
-    → let l = c.loop-k in l.end + length (text_of c.entry_line.result) ≤ length l.out
-room c =
-    let pre = c.requires.0 in omega (arith, short c, c.loop-k.invariant, c.loop-k-test.true, pre)
-
-pub loop-k-init : goal.loop-k-init
-loop-k-init c =
-    let a = c.args in
-    (omega arith, refl, refl, omega arith, ap (laid a.out.now 0) (lines_all a.report.now refl))
-
-pub put_line-end-requires : goal.put_line-end-requires
-put_line-end-requires c = room (goal.at.put_line-end-requires c).After-entry_line
-
-pub loop-k-preserved : goal.loop-k-preserved
-loop-k-preserved c =
-    let r = c.args.report.now in
-    let b = c.loop-k.out in
-    let e = c.loop-k.end in
-    let k = c.loop-k.k in
-    let more = lines_of (length r / 16 - (k + 1)) (drop (16 * (k + 1)) r) in (
-      omega arith,
-      c.loop-k.invariant.1,
+pub loop-entry-preserved : goal.loop-entry-preserved
+loop-entry-preserved c =
+    let before = c.loop-entry.invariant in
+    let step = c.in-Some.ensures.steps in
+    let entry = c.in-Some.entry.now in
+    let left = chunks_exact_rest c.next.new.self in
+    let b = c.loop-entry.out in
+    let size : length entry ≡ 16 = step.1.1 ∙ before.2 in
+    let short : length (text_of c.entry_line.result) ≤ 53 = rw c.entry_line.ensures.0 c.entry_line.ensures.1 in
+    let more : length (chunks_exact_rest c.loop-entry.entry-iterator) / 16 ≡ suc (length left / 16) =
+    omega (arith, ap length step.1.0, length-append entry left, size) in
+    let same = step.0 ∙ before.2 in (
+      omega (arith, same),
+      tt,
+      same,
       search rules,
-      omega (arith, short (goal.at.loop-k-preserved c).After-entry_line, c.put_line-end.ensures.0, c.loop-k.invariant),
-      laid_then b (text_of c.entry_line.result) e c.put_line-end.ensures.0 c.put_line-end.ensures.1 more (room (goal.at.loop-k-preserved c).After-entry_line)
-          ∙ ap (λ (x : List ℕ). laid b e (x ++ more)) (c.entry_line.ensures.0 ∙ ap entry_line (lent r (16 * k) 16))
-          ∙ ap (laid b e) (sym (lines_next r (length r / 16) k c.loop-k-test.true))
-          ∙ c.loop-k.invariant.4,
+      omega (arith, more, short, c.put_line-end.ensures.0, before.4),
+      laid_then b (text_of c.entry_line.result) c.loop-entry.end c.put_line-end.ensures.0 c.put_line-end.ensures.1 (report_lines left) (omega (arith, more, short, before.4))
+          ∙ ap (λ (l : List ℕ). laid b c.loop-entry.end (l ++ report_lines left)) c.entry_line.ensures.0
+          ∙ ap (laid b c.loop-entry.end) (sym (ap report_lines step.1.0 ∙ lines_next entry left size))
+          ∙ before.5,
     )
 
 pub returns : goal.returns
 returns c =
-    let r = c.args.report.now in
-    laid_nothing c.loop-k.out c.loop-k.end
-    ∙ ap (laid c.loop-k.out c.loop-k.end) (sym (lines_end r _ c.loop-k.k (omega arith)))
-    ∙ c.loop-k.invariant.4
+    let rest = chunks_exact_rest c.loop-entry.entry-iterator in
+    let few = c.in-None.ensures.steps.1.0 in
+    laid_nothing c.loop-entry.out c.loop-entry.end
+    ∙ ap (laid c.loop-entry.out c.loop-entry.end) (sym (lines_end rest (omega (arith, few, c.loop-entry.invariant.2))))
+    ∙ c.loop-entry.invariant.5

@@ -4,4 +4,4 @@ use Rattle.season_step.proofs.step.begun.Goals as goal
 
 pub returns : goal.returns
 unfolding beginning
-returns c = rw c.no_figures-totals.ensures
+returns c = rw c.no_figures.ensures

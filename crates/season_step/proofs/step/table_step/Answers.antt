@@ -14,15 +14,12 @@ pub returns-then-not-sound : goal.returns-then-not-sound
 unfolding passed_over
 returns-then-not-sound c =
     let a = c.args in
-    outcome_is a.out.now _ _ (passed_over a.position a.totals) c.put_refused.ensures
+    outcome_is a.out.now _ _ (passed_over a.run.position a.run.totals) c.put_refused.ensures
     ∙ ap (stepped a.out.now)
-    (sym (table_refused a.position a.totals a.table.now (sym c.sound.ensures ∙ c.if-not-sound.true)))
-
-pub figures_in-figures-requires : goal.figures_in-figures-requires
-figures_in-figures-requires c = good (goal.at.figures_in-figures-requires c).Else-not-sound
+    (sym (table_refused a.run.position a.run.totals a.table.now (sym c.sound.ensures ∙ c.if-not-sound.true)))
 
 pub returns : goal.returns
 returns c =
     let a = c.args in
-    taken_is a.position a.totals a.table.now a.out.now _ _ _ _ c.figures_in-figures.ensures c.put_table.ensures c.together.ensures
-    ∙ ap (stepped a.out.now) (sym (table_taken a.position a.totals a.table.now (good (goal.at.returns c).Else-not-sound)))
+    taken_is a.run.position a.run.totals a.table.now a.out.now _ _ _ _ c.figures_in-figures.ensures c.put_table.ensures c.together.ensures
+    ∙ ap (stepped a.out.now) (sym (table_taken a.run.position a.run.totals a.table.now (good (goal.at.returns c).Else-not-sound)))

@@ -11,10 +11,10 @@ use Rattle.server_bytes.proofs.calls.fault_at.Goals as goal
 pub settle-requires : goal.settle-requires
 settle-requires c =
     let a = c.args in
-    reply_sized a.state.now c.clock_of.ensures (λ (k : Clock). fault_of k a.table.now a.out.now) c.fault-reply.ensures (fault_replies a.table.now a.out.now)
+    reply_sized a.state.now c.clock_of-clock.ensures (λ (k : Clock). fault_of k a.table.now a.out.now) c.fault-answer.ensures (fault_replies a.table.now a.out.now)
 
 pub returns : goal.returns
 unfolding fault_at
 returns c =
     let a = c.args in
-    reply_settled a.state.now c.clock_of.ensures (λ (k : Clock). fault_of k a.table.now a.out.now) c.fault-reply.ensures (to_z-of_z {w = w32} (record { sfits = c.settle.type_inv })) c.settle.ensures
+    reply_settled a.state.now c.clock_of-clock.ensures (λ (k : Clock). fault_of k a.table.now a.out.now) c.fault-answer.ensures (to_z-of_z {w = w32} (record { sfits = c.settle.type_inv })) c.settle.ensures

@@ -11,10 +11,10 @@ use Rattle.server_bytes.proofs.events.disconnect_at.Goals as goal
 pub settle_event-requires : goal.settle_event-requires
 settle_event-requires c =
     let a = c.args in
-    event_sized a.state.now c.clock_of.ensures (λ (k : Clock). disconnect_of k) c.disconnect-event.ensures (λ (k : Clock). disconnect_2 k)
+    event_sized a.state.now c.clock_of-clock.ensures (λ (k : Clock). disconnect_of k) c.disconnect-answer.ensures (λ (k : Clock). disconnect_2 k)
 
 pub returns : goal.returns
 unfolding disconnect_at
 returns c =
     let a = c.args in
-    event_settled a.state.now c.clock_of.ensures (λ (k : Clock). disconnect_of k) c.disconnect-event.ensures (to_z-of_z {w = w32} (record { sfits = c.settle_event.type_inv })) c.settle_event.ensures
+    event_settled a.state.now c.clock_of-clock.ensures (λ (k : Clock). disconnect_of k) c.disconnect-answer.ensures (to_z-of_z {w = w32} (record { sfits = c.settle_event.type_inv })) c.settle_event.ensures

@@ -11,10 +11,10 @@ use Rattle.server_bytes.proofs.events.seconds_at.Goals as goal
 pub settle_event-requires : goal.settle_event-requires
 settle_event-requires c =
     let a = c.args in
-    event_sized a.state.now c.clock_of.ensures (λ (k : Clock). seconds_of k a.n) c.seconds-event.ensures (λ (k : Clock). seconds_2 k a.n)
+    event_sized a.state.now c.clock_of-clock.ensures (λ (k : Clock). seconds_of k a.n) c.seconds-answer.ensures (λ (k : Clock). seconds_2 k a.n)
 
 pub returns : goal.returns
 unfolding seconds_at
 returns c =
     let a = c.args in
-    event_settled a.state.now c.clock_of.ensures (λ (k : Clock). seconds_of k a.n) c.seconds-event.ensures (to_z-of_z {w = w32} (record { sfits = c.settle_event.type_inv })) c.settle_event.ensures
+    event_settled a.state.now c.clock_of-clock.ensures (λ (k : Clock). seconds_of k a.n) c.seconds-answer.ensures (to_z-of_z {w = w32} (record { sfits = c.settle_event.type_inv })) c.settle_event.ensures

@@ -11,10 +11,10 @@ use Rattle.server_bytes.proofs.events.switches_at.Goals as goal
 pub settle_event-requires : goal.settle_event-requires
 settle_event-requires c =
     let a = c.args in
-    event_sized a.state.now c.clock_of.ensures (λ (k : Clock). switches_of k (on_b a.dtcp) (on_b a.racp) (on_b a.log)) c.switches-event.ensures (λ (k : Clock). switches_2 k (on_b a.dtcp) (on_b a.racp) (on_b a.log))
+    event_sized a.state.now c.clock_of-clock.ensures (λ (k : Clock). switches_of k (on_b a.dtcp) (on_b a.racp) (on_b a.log)) c.switches-answer.ensures (λ (k : Clock). switches_2 k (on_b a.dtcp) (on_b a.racp) (on_b a.log))
 
 pub returns : goal.returns
 unfolding switches_at
 returns c =
     let a = c.args in
-    event_settled a.state.now c.clock_of.ensures (λ (k : Clock). switches_of k (on_b a.dtcp) (on_b a.racp) (on_b a.log)) c.switches-event.ensures (to_z-of_z {w = w32} (record { sfits = c.settle_event.type_inv })) c.settle_event.ensures
+    event_settled a.state.now c.clock_of-clock.ensures (λ (k : Clock). switches_of k (on_b a.dtcp) (on_b a.racp) (on_b a.log)) c.switches-answer.ensures (to_z-of_z {w = w32} (record { sfits = c.settle_event.type_inv })) c.settle_event.ensures

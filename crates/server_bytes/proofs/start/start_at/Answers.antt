@@ -12,4 +12,4 @@ pub settle_event-requires : goal.settle_event-requires
 settle_event-requires c = λ _. c.if-state-ne-STATE_BYTES.false
 
 pub returns : goal.returns
-returns c = start_settled _ _ c.if-state-ne-STATE_BYTES.false (to_z-of_z {w = w32} (record { sfits = c.settle_event.type_inv })) c.start-event.ensures c.settle_event.ensures
+returns c = start_settled _ _ c.if-state-ne-STATE_BYTES.false (to_z-of_z {w = w32} (record { sfits = c.settle_event.type_inv })) c.start-answer.ensures c.settle_event.ensures

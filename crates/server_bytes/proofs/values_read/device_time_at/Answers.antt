@@ -14,10 +14,10 @@ use Rattle.server_bytes.proofs.values_read.device_time_at.Goals as goal
 pub result_of-requires : goal.result_of-requires
 result_of-requires c =
     let a = c.args in
-    omega (arith, reply_short a.state.now c.clock_of.ensures (λ (k : Clock). device_time_of k a.table.now a.out.now) c.device_time-reply.ensures (device_time_replies a.table.now a.out.now))
+    omega (arith, reply_short a.state.now c.clock_of.ensures (λ (k : Clock). device_time_of k a.table.now a.out.now) c.device_time.ensures (device_time_replies a.table.now a.out.now))
 
 pub returns : goal.returns
 unfolding device_time_at
 returns c =
     let a = c.args in
-    reply_told (c.device_time-reply.ensures ∙ ap (λ (k : Clock). device_time_of k a.table.now a.out.now) c.clock_of.ensures) (to_z-of_z {w = w32} (record { sfits = c.result_of.type_inv }) ∙ c.result_of.ensures)
+    reply_told (c.device_time.ensures ∙ ap (λ (k : Clock). device_time_of k a.table.now a.out.now) c.clock_of.ensures) (to_z-of_z {w = w32} (record { sfits = c.result_of.type_inv }) ∙ c.result_of.ensures)

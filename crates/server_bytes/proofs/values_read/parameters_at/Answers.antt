@@ -8,10 +8,10 @@ use Rattle.server_bytes.proofs.ValueLaws.{value_short, value_told}
 use Rattle.server_bytes.proofs.values_read.parameters_at.Goals as goal
 
 pub result_of-requires : goal.result_of-requires
-result_of-requires c = value_short c.parameters-told.ensures (parameters_short _)
+result_of-requires c = value_short c.parameters.ensures (parameters_short _)
 
 pub returns : goal.returns
 unfolding parameters_at
 returns c =
     let r = c.result_of in
-    value_told c.parameters-told.ensures (to_z-of_z {w = w32} (record { sfits = r.type_inv }) ∙ r.ensures)
+    value_told c.parameters.ensures (to_z-of_z {w = w32} (record { sfits = r.type_inv }) ∙ r.ensures)

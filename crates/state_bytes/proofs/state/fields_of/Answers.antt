@@ -4,10 +4,10 @@ use Rattle.state_bytes.specs.State.{fields_of}
 use Rattle.state_bytes.proofs.StateLaws.{fields_idle, fields_report}
 use Rattle.state_bytes.proofs.state.fields_of.Goals as goal
 
-pub returns-in-Idle : goal.returns-in-Idle
-returns-in-Idle c = fields_idle c.bounds_at.ensures c.unsent_of.ensures ∙ sym (ap fields_of c.in-Idle.is)
+pub returns-in-None : goal.returns-in-None
+returns-in-None c = fields_idle c.bounds_at.ensures c.unsent_of.ensures ∙ sym (ap fields_of c.in-None.is)
 
-pub returns-in-Reporting : goal.returns-in-Reporting
-returns-in-Reporting c =
-    let r = c.in-Reporting in
-    fields_report r.report c.bounds_of.ensures c.unsent_of-in-Reporting.ensures ∙ sym (ap fields_of r.is)
+pub returns-in-Some : goal.returns-in-Some
+returns-in-Some c =
+    let r = c.in-Some in
+    fields_report r.report c.bounds_of.ensures c.unsent_of-in-Some.ensures ∙ sym (ap fields_of r.is)

@@ -25,9 +25,6 @@ slice_bounds-bytes-end c = fits (goal.at.slice_bounds-bytes-end c).After-size-n
 pub slice_bounds-put-end : goal.slice_bounds-put-end
 slice_bounds-put-end c = sym (length-take-le c.size-n.result (line (goal.at.slice_bounds-put-end c).After-size-n).bytes (fits (goal.at.slice_bounds-put-end c).After-size-n))
 
-pub put-requires : goal.put-requires
-put-requires c = rw (part (goal.at.put-requires c).After-size-n) c.requires
-
 pub returns : goal.returns
 returns c =
     let a = c.args in (

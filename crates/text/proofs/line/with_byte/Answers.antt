@@ -9,9 +9,6 @@ pub returns-then-len-ge96 : goal.returns-then-len-ge96
 unfolding text_of
 returns-then-len-ge96 c = let a = c.args in byte_dropped a.line.bytes a.line.len (search rules) a.b (omega arith)
 
-pub bounds-bytes-len : goal.bounds-bytes-len
-bounds-bytes-len c = omega arith
-
 pub returns : goal.returns
 unfolding text_of
 returns c = let a = c.args in byte_added a.line.bytes a.line.len (search rules) a.b (omega arith)

@@ -9,13 +9,13 @@ theorem =
     record {
       month_starts_lem = (λ κs a. tt, λ κs a x y u v h p q. (p ∙ sym q, refl));
       days_before_lem = λ κs a x y u v h p q. (p ∙ sym q, refl);
-      date_of_seconds_lem = λ κs a x y u v h p q. (p ∙ sym q, refl);
-      seconds_of_date_lem = λ κs a x y u v h p q. (p ∙ sym q, refl);
+      date_of_seconds_lem = (λ κs a. tt, λ κs a x y u v h p q. (p ∙ sym q, refl));
+      seconds_of_date_lem = (λ κs a. tt, λ κs a x y u v h p q. (p ∙ sym q, refl));
       put_dated = λ κs a x y u v h p q. split p q (λ w. w.end) (λ w. (w.buffer, (tt, (tt, (tt, tt)))));
       put_number_and = λ κs a x y u v h p q. split p q (λ w. w.end) (λ w. (w.buffer, (tt, (tt, (tt, tt)))));
       local_of_lem = (λ κs a. tt, λ κs a x y u v h p q. (p ∙ sym q, refl));
-      local_date_lem = λ κs a x y u v h p q. (p ∙ sym q, refl);
-      put_record = λ κs a x y u v h p q. split p.0 q.0 (λ w. w.end) (λ w. (tt, (w.buffer, (tt, (tt, tt)))));
+      local_date_lem = (λ κs a. tt, λ κs a x y u v h p q. (p ∙ sym q, refl));
+      put_record = λ κs a x y u v h p q. split p.0 q.0 (λ w. w.end) (λ w. (w.buffer, (tt, (tt, tt))));
       calendar = (λ κs a. tt, λ κs a x y u v h p q. split p q (λ w. w.end) (λ w. (tt, (w.buffer, tt))));
     }
 

@@ -1,7 +1,8 @@
 -- Two outcomes that meet one equation are one: those by value by that alone, those of lent buffers by the parts of the whole (`split`).
 use mathlib.Core.Path.{refl, sym, ap, ◌∙◌}
-use mathlib.Core.List.{List}
+use mathlib.Core.List.{List, []}
 use Prim.Native.Nat.{ℕ}
+use Rattle.season_step.proofs.StepLaws.{answered, answered_is}
 use Rattle.theorems_once.proofs.Whole.{split}
 use Rattle.theorems_once.proofs.OfPrograms.{OneOutcome}
 use Rattle.theorems_once.proofs.of_programs.one_outcome.Goals as goal
@@ -31,7 +32,8 @@ theorem =
       table_bytes_lem = (λ κs a. tt, λ κs a x y u v h p q. (p ∙ sym q, refl));
       step = (
         λ κs a. tt,
-        λ κs a x y u v h p q. split p q (λ w. record { len = w.lines.end; more = w.more; position = w.position; totals = w.totals }) (λ w. (tt, (tt, (tt, (w.lines.buffer, tt))))),
+        λ κs a x y u v h p q.
+            let e = split p q answered (λ w. (tt, (tt, (w.lines.buffer, tt)))) in (sym (answered_is x []) ∙ e.0 ∙ answered_is y [], e.1),
       );
       tag_line_lem = (λ κs a. tt, λ κs a x y u v h p q. (p ∙ sym q, refl));
       title_line_lem = (λ κs a. tt, λ κs a x y u v h p q. (p ∙ sym q, refl));
