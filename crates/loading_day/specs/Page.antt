@@ -6,10 +6,10 @@ use Rattle.day_evening.specs.Fetch.{fetched_of, sight_of, ruling_of}
 use Rattle.day_play.specs.declared.play.Happening.{Happening}
 use Rattle.day_play.specs.declared.play.Ramp.{Ramp}
 use Rattle.day_play.specs.declared.reader.Note.{Note}
-use Rattle.loading_day.specs.declared.page.Page.{Page}
+use Rattle.octets.specs.declared.bytes.Bytes.{Bytes}
 
 -- the bytes of a page that count
-unfoldable pub page_text : Page → List ℕ
+unfoldable pub page_text : Bytes 864 → List ℕ
 page_text p = take p.len p.bytes
 
 -- a tag's line: of each side its reader's note, its clock's Base_Time in the evening, and its table as the tablet fetched it

@@ -9,19 +9,16 @@ use day_evening::fetch::{Side, fetched, ruling, sight};
 use day_play::play::{Happening, Ramp, played};
 use day_play::reader::{Note, Reader};
 use day_sheet::sheet::{tag_line, title_line};
+use octets::bytes::Bytes;
 use text::line::{Line, put_line};
 
 // Nine lines of at most 96 bytes; its first `len` bytes count. On the heap it could fail to be made, and no sheet fails.
-#[derive(Clone, Copy)]
-pub struct Page {
-    pub bytes: [u8; 864],
-    pub len: usize,
-}
+pub type Page = Bytes<864>;
 
 fn blank() -> Page
     ensures { (page_text result ≡ []) × (result.len ≡ 0) }
 {
-    Page {
+    Bytes {
         bytes: [0u8; 864],
         len: 0,
     }
@@ -34,7 +31,7 @@ fn with_line(page: Page, line: Line) -> Page
     let at = page.len;
     let mut bytes = page.bytes;
     let len = put_line(&mut bytes, at, line);
-    Page { bytes, len }
+    Bytes { len, bytes }
 }
 
 // One reader in the evening: its notes by the tags' places, its clock's Base_Time, and its table as the tablet fetched it.

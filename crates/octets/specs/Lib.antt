@@ -1,3 +1,4 @@
+pub mod Bytes
 pub mod Choice
 pub mod Numbers
 pub mod Parts

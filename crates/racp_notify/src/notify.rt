@@ -50,7 +50,7 @@ fn room(p: u32, out: usize) -> bool
 fn bit(b: bool) -> u8
     ensures { (result ≡ Notify·bit b) × (result ≤ 1) }
 {
-    if b { 1 } else { 0 }
+    b as u8
 }
 
 // "bit 0 first, bit 1 last, bits 2-7 a counter"

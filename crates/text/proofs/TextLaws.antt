@@ -12,7 +12,7 @@ use lib.Seq.{take_all, take-append-le, take-append-add, take_at, take-suc-set, l
 use Rattle.octets.specs.Parts.{over}
 use Rattle.octets.proofs.PartLaws.{drop_over}
 use Rattle.text.specs.Line.{text_of, fitted}
-use Rattle.text.specs.declared.line.Line.{Line}
+use Rattle.octets.specs.declared.bytes.Bytes.{Bytes}
 
 pub fitted_short : (a : List ℕ) → length a ≤ 96 → fitted a ≡ a
 unfolding fitted
@@ -57,7 +57,7 @@ part_again (suc m) [] = refl
 part_again (suc m) (x ∷ l) = ap (λ (r : List ℕ). x ∷ r) (part_again m l)
 
 -- a line's text in its bytes
-module _ (line : Line) (n : ℕ) (e : n ≡ length (text_of line)) where
+module _ (line : Bytes 96) (n : ℕ) (e : n ≡ length (text_of line)) where
   pub text_part : take n line.bytes ≡ text_of line
   unfolding text_of
   text_part = ap (λ (m : ℕ). take m line.bytes) e ∙ part_again line.len line.bytes
@@ -66,7 +66,7 @@ module _ (line : Line) (n : ℕ) (e : n ≡ length (text_of line)) where
   unfolding text_of
   text_fits = rw e (simp length-take (omega arith))
 
-pub text_short : (line : Line) → length line.bytes ≡ 96 → length (text_of line) ≤ 96
+pub text_short : (line : Bytes 96) → length line.bytes ≡ 96 → length (text_of line) ≤ 96
 unfolding text_of
 text_short line size = simp length-take (omega arith)
 

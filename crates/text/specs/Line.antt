@@ -1,10 +1,10 @@
 -- A line's text, what of a text fits a line, and a number in decimal.
 use Rattle.std.specs.Prelude.{List, [], ◌∷◌, ◌++◌, ℕ, zero, suc, ◌+◌, ◌/◌, ◌%◌, ltb, take}
 use Rattle.octets.specs.Choice.{pick}
-use Rattle.text.specs.declared.line.Line.{Line}
+use Rattle.octets.specs.declared.bytes.Bytes.{Bytes}
 
 -- the bytes of a line that count: its first `len`
-unfoldable pub text_of : Line → List ℕ
+unfoldable pub text_of : Bytes 96 → List ℕ
 text_of line = take line.len line.bytes
 
 -- as much of a text as a line holds: its first 96 bytes

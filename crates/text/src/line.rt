@@ -4,20 +4,17 @@ ghost use Rattle.std.specs.Prelude.{◌≡◌, [], ◌∷◌, ◌++◌, ◌+◌,
 ghost use Rattle.octets.specs.Parts.{over};
 ghost use Rattle.text.specs.Line.{text_of, fitted, decimal};
 
+use octets::bytes::Bytes;
 use octets::parts::put;
 
 // A line of text that is built up by value: its first `len` bytes count. No `String`, since a library has no heap; and any `len`
 // is answered, so that whoever makes a line has nothing to show.
-#[derive(Clone, Copy)]
-pub struct Line {
-    pub bytes: [u8; 96],
-    pub len: usize,
-}
+pub type Line = Bytes<96>;
 
 pub fn empty() -> Line
     ensures { text_of result ≡ [] }
 {
-    Line {
+    Bytes {
         bytes: [0u8; 96],
         len: 0,
     }
@@ -33,7 +30,7 @@ pub fn with_byte(line: Line, b: u8) -> Line
     }
     let mut bytes = line.bytes;
     bytes[len] = b;
-    Line {
+    Bytes {
         bytes,
         len: len + 1,
     }

@@ -11,6 +11,7 @@ pub fn kept()
 {}
 
 // The most new records between two fetches for which that holds.
+#[tactic(auto, using(crate::proofs::WrongLaws::limit))]
 pub fn too_many()
     ensures { Limit }
 {}
@@ -21,6 +22,7 @@ pub fn computed()
 {}
 
 // Wrong ways to tell and to take in, each with a history.
+#[tactic(auto, using(crate::proofs::WrongLaws::shut_out))]
 pub fn shut_out()
     ensures { ShutOut }
 {}

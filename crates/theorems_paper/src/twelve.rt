@@ -3,6 +3,7 @@
 ghost use Rattle.theorems_paper.specs.Twelve.{TwelveCases};
 
 // The twelve cases of document 01, in its order.
+#[tactic(auto, using(crate::proofs::TwelveLaws::twelve_cases))]
 pub fn twelve_cases()
     ensures { TwelveCases }
 {}

@@ -6,6 +6,7 @@ ghost use Rattle.theorems_reports.specs.Cases.{Computed};
 ghost use Rattle.theorems_reports.specs.Wrong.{ShutOut};
 
 // An accepted report asked for with any payload sizes gives exactly the matching held records.
+#[tactic(auto, using(crate::proofs::ReportLaws::finished_report))]
 pub fn finished_report()
     ensures { FinishedReport notify_of }
 {}
@@ -16,11 +17,13 @@ pub fn heard_report()
 {}
 
 // Calls without a disconnect, a fault and an Abort end no report.
+#[tactic(auto, using(crate::proofs::ReportLaws::calm_calls))]
 pub fn calm_calls()
     ensures { CalmCalls }
 {}
 
 // Nor does a disconnect, a fault or an Abort that is refused.
+#[tactic(auto, using(crate::proofs::ReportLaws::quiet_calls))]
 pub fn quiet_calls()
     ensures { QuietCalls }
 {}
@@ -31,11 +34,13 @@ pub fn closing_report()
 {}
 
 // Reports of one table, computed: all records, a combined report among other calls, one that a fault ends.
+#[tactic(auto, using(crate::proofs::CaseLaws::computed))]
 pub fn computed()
     ensures { Computed }
 {}
 
 // Wrong transfers, of each of which the first theorem is false.
+#[tactic(auto, using(crate::proofs::WrongLaws::shut_out))]
 pub fn shut_out()
     ensures { ShutOut }
 {}

@@ -1,8 +1,9 @@
 -- The DTCP response to a decision, byte for byte (document 002, Tables 3.15, 3.20 and 3.21).
-use Rattle.std.specs.Prelude.{List, [], ◌∷◌, ◌++◌, ℕ, ◌-◌, length, replicate, Err, Ok, Result}
+use Rattle.std.specs.Prelude.{List, [], ◌∷◌, ℕ, Err, Ok, Result}
+use Rattle.octets.specs.Bytes.{padded}
 use Rattle.octets.specs.Numbers.{bytes2}
+use Rattle.octets.specs.declared.bytes.Bytes.{Bytes}
 use Rattle.codes.specs.Dtcp.{response_opcode, success, opcode_not_supported, invalid_operand, procedure_rejected}
-use Rattle.update_decide.specs.declared.response.Response.{Response}
 use Rattle.update_decide.specs.declared.decide.NotTaken.{NotTaken}
 use Rattle.update_decide.specs.declared.decide.NotTaken.TheVariants.{Rejected, Unsupported, WrongLength}
 use Rattle.update_judge.specs.declared.proposal.Proposal.{Proposal}
@@ -15,10 +16,6 @@ response_bytes opcode (Err WrongLength) = response_opcode ∷ opcode ∷ invalid
 response_bytes opcode (Err (Rejected flags)) = response_opcode ∷ opcode ∷ procedure_rejected ∷ bytes2 flags
 response_bytes opcode (Ok p) = response_opcode ∷ opcode ∷ success ∷ []
 
--- the bytes with zeros after them up to 5
-abbrev pub padded : List ℕ → Response
-padded b = record { len = length b; bytes = b ++ replicate (5 - length b) 0 }
-
--- as `response_of` hands them over
-unfoldable pub response_of : ℕ → Result Proposal NotTaken → Response
-response_of opcode d = padded (response_bytes opcode d)
+-- as `response_of` hands them over: with zeros after them up to 5
+unfoldable pub response_of : ℕ → Result Proposal NotTaken → Bytes 5
+response_of opcode d = padded 5 (response_bytes opcode d)

@@ -1,26 +1,24 @@
 // The DTCP response to a decision (document 002, Tables 3.20 and 3.21). None requires anything.
 ghost use Rattle.std.specs.Prelude.{◌≡◌, [], ◌∷◌};
 ghost use Rattle.codes.specs.Dtcp.{response_opcode};
-ghost use Rattle.update_decide.specs.Response.{padded, response_of};
+ghost use Rattle.octets.specs.Bytes.{padded};
+ghost use Rattle.update_decide.specs.Response.{response_of};
 
 use crate::decide::NotTaken;
 use codes::dtcp::{
     INVALID_OPERAND, OPCODE_NOT_SUPPORTED, PROCEDURE_REJECTED, RESPONSE_OPCODE, SUCCESS,
 };
+use octets::bytes::Bytes;
 use octets::numbers::bytes2;
 use update_judge::proposal::Proposal;
 
 // A response's bytes, and zeros after them up to the longest response's length.
-#[derive(Clone, Copy)]
-pub struct Response {
-    pub len: usize,
-    pub bytes: [u8; 5],
-}
+pub type Response = Bytes<5>;
 
 fn short(opcode: u8, value: u8) -> Response
-    ensures { result ≡ padded (response_opcode ∷ opcode ∷ value ∷ []) }
+    ensures { result ≡ padded 5 (response_opcode ∷ opcode ∷ value ∷ []) }
 {
-    Response {
+    Bytes {
         len: 3,
         bytes: [RESPONSE_OPCODE, opcode, value, 0, 0],
     }
@@ -37,7 +35,7 @@ pub fn response_of(opcode: u8, d: Result<Proposal, NotTaken>) -> Response
         Err(NotTaken::WrongLength) => short(opcode, INVALID_OPERAND),
         Err(NotTaken::Rejected(flags)) => {
             let f = bytes2(flags);
-            Response {
+            Bytes {
                 len: 5,
                 bytes: [RESPONSE_OPCODE, opcode, PROCEDURE_REJECTED, f[0], f[1]],
             }

@@ -5,12 +5,12 @@ use lib.ListN.{length, take}
 use lib.Seq.{length-take-le}
 use Rattle.octets.specs.Parts.{over}
 use Rattle.text.specs.Line.{text_of}
-use Rattle.text.specs.declared.line.Line.{Line}
+use Rattle.octets.specs.declared.bytes.Bytes.{Bytes}
 use Rattle.text.proofs.TextLaws.{text_part, text_fits}
 use Rattle.text.proofs.line.put_line.Goals as goal
 use Rattle.text.proofs.line.put_line.Goals.{After-size-n}
 
-abbrev line : After-size-n → Line
+abbrev line : After-size-n → Bytes 96
 line c = c.args.line
 
 fits : (c : After-size-n) → c.size-n.result ≤ length (line c).bytes
