@@ -4,7 +4,7 @@ ghost use Rattle.std.specs.Prelude.{◌≡◌};
 ghost use Rattle.day_play.specs.Reader.{proposal_bytes, started_of, with_clock, set_of, failed_of, read_of, lived_of};
 
 use clock::events::{disconnect, seconds, switches};
-use clock::state::{Clock, new_reader};
+use clock::state::Clock;
 use codes::dtcp::PROPOSE_OPCODE;
 use octets::numbers::bytes4;
 use rows::rows::LEAST_OUTPUT;
@@ -56,9 +56,8 @@ fn proposal(base: u32) -> [u8; 11]
 pub fn started() -> Reader
     ensures { result ≡ started_of }
 {
-    let mut clock = new_reader();
     let mut table = [0u8; 528];
-    let _ = start(&mut clock, &mut table);
+    let (clock, _) = start(&mut table);
     Reader {
         clock,
         table,

@@ -3,7 +3,6 @@ ghost use Rattle.std.specs.Prelude.{◌≡◌};
 ghost use Rattle.server_bytes.specs.Start.{started_bytes, short_of, start_at};
 
 use crate::results::settle_event;
-use clock::state::new_reader;
 use state_bytes::state::STATE_BYTES;
 use table::header::size_ok;
 
@@ -22,7 +21,6 @@ pub fn start_at(state: &mut [u8], table: &mut [u8]) -> i32
     if state.len() != STATE_BYTES {
         return short(table.len());
     }
-    let mut clock = new_reader();
-    let answer = update::start::start(&mut clock, table);
+    let (clock, answer) = update::start::start(table);
     settle_event(state, clock, answer)
 }

@@ -8,8 +8,8 @@
 -- function requires of its arguments, `Post` what it ensures of its arguments, its result and its references at the exit.
 --
 -- A call is its lifetimes κs and its arguments a. An outcome is a result, x or y, and what the parameters last hold, u or v: a tuple with a
--- component for each parameter in order, closed by `tt`. That of a `&mut` is its bytes or number; of all else it is `tt`, since nothing of it
--- changes.
+-- component for each parameter in order, closed by `tt`. That of a `&mut` is its bytes, its number or its clock; of all else it is `tt`, since
+-- nothing of it changes.
 --
 -- A call has four lines: the two above, its field in the file of its family, and that field's proof. Of a function that hands back a part of what
 -- was lent, the part that is one is what stands there, `x.now`.

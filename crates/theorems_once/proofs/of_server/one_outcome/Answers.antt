@@ -9,7 +9,7 @@ use Rattle.theorems_once.proofs.of_server.one_outcome.Goals as goal
 theorem : OneOutcome
 theorem =
     record {
-      start = (λ κs a. tt, λ κs a x y u v h p q. split p q (λ w. w.event.answer) (λ w. (w.event.clock, (w.table, tt))));
+      start = (λ κs a. tt, λ κs a x y u v h p q. split p q (λ w. (w.event.clock, w.event.answer)) (λ w. (w.table, tt)));
       seconds = (λ κs a. tt, λ κs a x y u v h p q. split p q (λ w. w.answer) (λ w. (w.clock, (tt, tt))));
       switches = (λ κs a. tt, λ κs a x y u v h p q. split p q (λ w. w.answer) (λ w. (w.clock, (tt, (tt, (tt, tt))))));
       disconnect = (λ κs a. tt, λ κs a x y u v h p q. split p q (λ w. w.answer) (λ w. (w.clock, tt)));
