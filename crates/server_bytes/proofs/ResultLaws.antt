@@ -9,13 +9,13 @@ use lib.IntN.{ℤ, pos, ◌-ℤ◌, +ℤ_idl}
 use mir.Syntax.{w32}
 use mir.Val.{SFits, to_z}
 use mir.Facts.{to_z_pos}
-use Rattle.clock.specs.Answers.{number_of, Answer, answer_in, len_in}
+use Rattle.clock.specs.Answers.{number_of, Answer, answer_in}
 use Rattle.clock.specs.declared.answers.Refusal.{Refusal}
 use Rattle.clock.specs.declared.state.Clock.{Clock}
 use Rattle.rows.specs.Reply.{done_b}
 use Rattle.octets.proofs.Tests.{clash}
 use Rattle.rows.proofs.RowLaws.{ok_done, err_refused}
-use Rattle.std.specs.Result.{result_and, is_err}
+use Rattle.std.specs.Result.{is_err}
 use Rattle.std.proofs.Common.{Result, Ok, Err}
 use Rattle.carry.proofs.IntLaws.{size_difference, fits}
 use Rattle.state_bytes.specs.State.{image_of}
@@ -49,15 +49,6 @@ answer_refused (Err why) e = err_refused (Err why) why refl
 pub answer_done : (r : Result ℕ Refusal) → is_err r ≡ false → done_b (answer_in r) ≡ true
 answer_done (Ok n) e = ok_done (Ok tt) tt refl
 answer_done (Err why) e = absurd (clash true refl e)
-
--- of an event, which writes no bytes
-pub event_answer : (a : Answer) → answer_in (result_and {U = ℕ} a (Ok 0)) ≡ a
-event_answer (Ok done) = refl
-event_answer (Err why) = refl
-
-pub event_len : (a : Answer) → len_in (result_and {U = ℕ} a (Ok 0)) ≡ 0
-event_len (Ok done) = refl
-event_len (Err why) = refl
 
 -- the state after a refusal, and after a call that is done
 module _ (s : List ℕ) (a : Answer) (c : Clock) (n : ℕ) {z : ℤ} (e : z ≡ result_of a n) where

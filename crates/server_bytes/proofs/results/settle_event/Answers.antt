@@ -1,18 +1,15 @@
--- An event answers as many bytes as none.
-use mathlib.Core.Path.{◌≡◌, ap, ◌∙◌}
-use lib.IntN.{ℤ}
+-- A refusal by its number, with the state as it was. What is done is `settle`'s, of no bytes.
+use mathlib.Core.Path.{sym, ap, ◌∙◌}
 use mir.Facts.{to_z-of_z}
 use mir.Syntax.{w32}
-use Rattle.server_bytes.specs.Results.{ran}
-use native.Mathlib.Omega.{arith}
-use Rattle.server_bytes.proofs.ResultLaws.{event_answer, event_len}
+use Rattle.clock.specs.Answers.{Answer}
+use Rattle.rows.proofs.RowLaws.{err_refused}
+use Rattle.server_bytes.specs.Results.{result_of}
+use Rattle.server_bytes.proofs.ResultLaws.{settled_refused}
 use Rattle.server_bytes.proofs.results.settle_event.Goals as goal
 
-pub settle-requires : goal.settle-requires
-settle-requires c =
-    rw (c.and.ensures, event_len c.args.answer, event_answer c.args.answer) (omega arith, c.requires)
-
-pub returns : goal.returns
-returns c =
-    ap (λ (x : ℤ). ran x c.settle.new.state) (to_z-of_z {w = w32} (record { sfits = c.settle.type_inv }))
-    ∙ (rw (c.and.ensures, event_len c.args.answer, event_answer c.args.answer) at c.settle.ensures)
+pub returns-in-Err : goal.returns-in-Err
+returns-in-Err c =
+    let r = c.result_of in
+    let told = c.in-Err.is in
+    settled_refused _ _ _ _ (to_z-of_z {w = w32} (record { sfits = r.type_inv }) ∙ r.ensures ∙ ap (λ (a : Answer). result_of a 0) (sym told)) (err_refused _ _ told)
