@@ -1,6 +1,6 @@
 // One beast or two (change request E5): both antennas' stamps of one tag are carried, each is taken from its own clock, and the
 // two ages compared.
-ghost use Rattle.std.specs.Prelude.{◌≡◌, ◌≤◌, nat_abs};
+ghost use Rattle.std.specs.Prelude.{◌≡◌, ◌≤◌, nat_abs, ◌-ℤ◌};
 ghost use Rattle.ramp.specs.Bounds.{Sized, carried_bound};
 ghost use Rattle.ramp.specs.Beast.{age_of, judge_of, verdict_of, one_beast_of, verdict_number, verdict_side};
 
@@ -45,12 +45,18 @@ fn age(base: u32, carried: i64) -> i64
     base as i64 - carried
 }
 
+// The seconds between two ages, either way round.
+fn apart(left: i64, right: i64) -> u64
+    ensures { result ≡ nat_abs (left -ℤ right) }
+{
+    left.abs_diff(right)
+}
+
 // "one" exactly when the two ages differ by at most the window, else "two".
 fn judge(window: u32, left: i64, right: i64) -> Beasts
     ensures { result ≡ judge_of window left right }
 {
-    let apart = left.abs_diff(right);
-    if apart <= window as u64 {
+    if apart(left, right) <= window as u64 {
         Beasts::One
     } else {
         Beasts::Two
