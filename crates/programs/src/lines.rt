@@ -7,7 +7,7 @@ use std::io::Read;
 // More bytes than the largest table has, so that input that is too long is seen to be.
 const INPUT_BYTES: u64 = 65536;
 
-// What was made: the buffer's first `len` bytes, and no more. This is all that is written.
+// What was made: the buffer's first `len` bytes, and no more.
 fn made(out: &[u8; 65536], len: usize) -> &[u8]
     requires { len ≤ length out.now }
     ensures { result.now ≡ take len out.now }
@@ -15,7 +15,8 @@ fn made(out: &[u8; 65536], len: usize) -> &[u8]
     &out[..len]
 }
 
-// The lines are all made in one buffer, by `fill`, which answers how many bytes of it they are.
+// The lines are all made in one buffer, by `fill`, which answers how many bytes of it they are. That what is handed over is `made` is
+// to be read here: no clause can speak of what was written.
 pub fn print_lines<F: FnOnce(&[u8], &mut [u8; 65536]) -> usize>(
     rt: &HostRuntime,
     fill: F,
